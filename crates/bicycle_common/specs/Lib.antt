@@ -1,0 +1,5 @@
+-- What the contracts of `bicycle_common` cite.
+pub mod Refusals
+pub mod Letters
+pub mod Automorphisms
+pub mod Instructions
