@@ -1,16 +1,20 @@
 -- Laws of letters: what anticommutes, and that a capital and a small letter are read as the letter. Each is one test over all
 -- letters. Assumes nothing.
-use mathlib.Core.Path.{_≡_, refl, ap}
-use mathlib.Core.Bool.{Bool, true, false, Bool·beq, _&&_, _||_, toNat}
-use Prim.Native.Nat.{ℕ, _+_, _*_, _<_}
+use mathlib.Core.Path.{_≡_, refl, ap, _∙_, subst}
+use mathlib.Core.Bool.{Bool, true, false, Bool·beq, cond, _||_}
+use mathlib.Core.Logic.{_⊎_, ⊎-elim, inl, inr}
+use Prim.Native.Nat.{ℕ, _<_}
 use native.Mathlib.Omega.{arith}
 use lib.Dec.{T, eqb, ltb, eqb→eq, ltb→lt}
+use borrow.Author.Tests.{eqb-true}
 use Rattle.bicycle_common.specs.declared.Pauli.{Pauli}
 use Rattle.bicycle_common.specs.declared.Pauli.the-variants.{I, X, Z, Y}
 use Rattle.bicycle_common.specs.declared.Anticommuting.{Anticommuting}
 use Rattle.bicycle_common.specs.declared.Anticommuting.the-variants.{Letters, Identity}
+use Rattle.bicycle_common.specs.declared.LetterAnswer.{LetterAnswer}
 use Rattle.bicycle_common.specs.declared.LetterAnswer.the-variants.{Is, Refused}
-use Rattle.bicycle_common.specs.Letters.{xOf, zOf, letter, rank, isI, same, clash, anticommutingLetters, capital, small, readLetter}
+use Rattle.bicycle_common.specs.declared.Refusal.the-variants.{NotLetters}
+use Rattle.bicycle_common.specs.Letters.{xOf, zOf, letter, rank, isI, same, clash, anticommutingLetters, capital, small, upper, standsFor, readLetter}
 use Rattle.bicycle_common.proofs.Tests.{bits, at-bit, letters, at-letter}
 
 pub beq→eq : (a b : Bool) → T (Bool·beq a b) → a ≡ b
@@ -91,3 +95,41 @@ read-small I = refl
 read-small X = refl
 read-small Z = refl
 read-small Y = refl
+
+-- b stands for l where it is l's capital or l's small letter
+stands-for : (b : ℕ) (l : Pauli) → standsFor b l ≡ true → (b ≡ capital l) ⊎ (b ≡ small l)
+stands-for b l e = go (eqb b (capital l)) refl e
+  where
+    go : (c : Bool) → eqb b (capital l) ≡ c → (c || eqb b (small l)) ≡ true → (b ≡ capital l) ⊎ (b ≡ small l)
+    go true f g = inl (eqb-true b (capital l) f)
+    go false f g = inr (eqb-true b (small l) g)
+
+-- what is known of a byte that is read as l: that it is one of l's two bytes
+pub read-exact : (b : ℕ) (l : Pauli) → readLetter b ≡ Is l → (b ≡ capital l) ⊎ (b ≡ small l)
+unfolding readLetter
+read-exact b l = test I (test X (test Z (test Y (λ e. absurd (no-letter e)))))
+  where
+    no-letter : Refused NotLetters ≡ Is l → ⊥
+    no-letter e = let z : _≡_ {A = ℕ} 0 1 = cc in omega arith
+
+    test : (k : Pauli) {other : LetterAnswer} → (other ≡ Is l → (b ≡ capital l) ⊎ (b ≡ small l))
+        → cond (standsFor b k) (Is k) other ≡ Is l → (b ≡ capital l) ⊎ (b ≡ small l)
+    test k {other} rest e = go (standsFor b k) refl e
+      where
+        go : (c : Bool) → standsFor b k ≡ c → cond c (Is k) other ≡ Is l → (b ≡ capital l) ⊎ (b ≡ small l)
+        go true f g =
+            let k=l : k ≡ l = cc in
+            subst (λ (m : Pauli). (b ≡ capital m) ⊎ (b ≡ small m)) k=l (stands-for b k f)
+        go false f g = rest g
+
+upper-capital : (l : Pauli) → upper (capital l) ≡ capital l
+unfolding upper
+upper-capital l = eqb→eq _ _ (at-letter (λ a. eqb (upper (capital a)) (capital a)) tt l)
+
+upper-small : (l : Pauli) → upper (small l) ≡ capital l
+unfolding upper
+upper-small l = eqb→eq _ _ (at-letter (λ a. eqb (upper (small a)) (capital a)) tt l)
+
+-- so its capital is l's
+pub read-upper : (b : ℕ) (l : Pauli) → readLetter b ≡ Is l → upper b ≡ capital l
+read-upper b l e = ⊎-elim (λ f. ap upper f ∙ upper-capital l) (λ f. ap upper f ∙ upper-small l) (read-exact b l e)

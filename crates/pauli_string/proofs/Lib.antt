@@ -1,0 +1,8 @@
+-- Laws that belong to no one function.
+pub mod Digits
+pub mod Places
+pub mod Commutation
+pub mod Pivot
+pub mod Rotation
+pub mod Lists
+pub mod Text

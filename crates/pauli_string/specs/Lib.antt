@@ -1,0 +1,4 @@
+-- What the contracts of `pauli_string` cite.
+pub mod Strings
+pub mod Text
+pub mod Answers
