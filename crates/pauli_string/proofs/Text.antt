@@ -19,7 +19,11 @@ use Rattle.bicycle_common.specs.declared.LetterAnswer.{LetterAnswer}
 use Rattle.bicycle_common.specs.declared.LetterAnswer.the-variants.{Is, Refused}
 use Rattle.bicycle_common.specs.Letters.{xOf, zOf, letter, capital, upper, readLetter}
 use Rattle.bicycle_common.proofs.Letters.{xOf-lt, zOf-lt, letter-digits, digit-x, digit-z, read-capital, read-upper}
+use Rattle.bicycle_common.specs.declared.Refusal.the-variants.{NotLetters}
+use Rattle.pauli_string.specs.declared.PauliString.{PauliString}
+use Rattle.pauli_string.specs.declared.StringAnswer.the-variants.{Refused as NoString}
 use Rattle.pauli_string.specs.Strings.{bit, letterAt}
+use Rattle.pauli_string.specs.Answers.{string, readText}
 use Rattle.pauli_string.specs.Text.{lettersFrom, letters, number, stringOf, text, good, theLetter, letterOf, allLetters, isText, spelled}
 use Rattle.pauli_string.proofs.Digits.{two-pos, bit-lt, bit-first, bit-high, bit-low}
 use Rattle.pauli_string.proofs.Lists.{getD-reverse, map-reverse, reverse-snoc, drop-set}
@@ -270,6 +274,40 @@ palindrome q p h = (
   λ e. sym (letters-of-string q (reverse (letters q p)) (length-reverse (letters q p) ∙ length-letters q p)) ∙ ap (letters q) e,
   λ e. ap (stringOf q) e ∙ string-of-letters q p h,
 )
+
+-- ---- what `from_text` answers
+
+pub read-good : (q : ℕ) (s : List ℕ) → isText q s ≡ true → readText q s ≡ string (spelled q s)
+read-good q s e = ap (λ (b : Bool). cond b (string (spelled q s)) (NoString NotLetters)) e
+
+pub read-bad : (q : ℕ) (s : List ℕ) → isText q s ≡ false → readText q s ≡ NoString NotLetters
+read-bad q s e = ap (λ (b : Bool). cond b (string (spelled q s)) (NoString NotLetters)) e
+
+pub string-inj : (m n : ℕ) → string m ≡ string n → m ≡ n
+string-inj m n e =
+    let r : _≡_ {A = PauliString} (record { 0 = m }) (record { 0 = n }) = cc in
+    ap (λ (x : PauliString). x .0) r
+
+-- what is read as p is text that spells p
+pub read-as : (q : ℕ) (s : List ℕ) (p : ℕ) → readText q s ≡ string p → (isText q s ≡ true) × (spelled q s ≡ p)
+read-as q s p e = go (isText q s) refl
+  where
+    go : (b : Bool) → isText q s ≡ b → (isText q s ≡ true) × (spelled q s ≡ p)
+    go true t = (t, string-inj (spelled q s) p (sym (read-good q s t) ∙ e))
+    go false t =
+        let no : NoString NotLetters ≡ string p = sym (read-bad q s t) ∙ e in
+        let z : _≡_ {A = ℕ} 0 1 = cc in
+        absurd (omega arith)
+
+pub refused-as : (q : ℕ) (s : List ℕ) → readText q s ≡ NoString NotLetters → isText q s ≡ false
+refused-as q s e = go (isText q s) refl
+  where
+    go : (b : Bool) → isText q s ≡ b → isText q s ≡ false
+    go false t = t
+    go true t =
+        let no : string (spelled q s) ≡ NoString NotLetters = sym (read-good q s t) ∙ e in
+        let z : _≡_ {A = ℕ} 0 1 = cc in
+        absurd (omega arith)
 
 -- ---- the loop that reads text: the letters of the first i bytes of s stand in reverse at the end of the array ls
 

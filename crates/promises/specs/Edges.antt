@@ -1,0 +1,56 @@
+-- The worked examples of document 01, "Both sides of each edge", that are marked *: each row is a question and the paper's answer, its
+-- number (0 where nothing is refused) and its values. One theorem, computed, says that every row is right. Assumes nothing.
+use mathlib.Core.Path.{_≡_, refl}
+use mathlib.Core.List.{List, [], _∷_, map}
+use Prim.Native.Nat.{ℕ}
+use Rattle.bicycle_common.specs.Refusals.{Told}
+use Rattle.bicycle_common.specs.Letters.{rank, same, clash}
+use Rattle.bicycle_common.specs.Automorphisms.{ofPair, inverse, toldPair}
+use Rattle.pauli_string.specs.Strings.{qubits, bit, letterAt, clashes, commute, conj, pivotBits, blank, rotationOf}
+use Rattle.pauli_string.specs.Answers.{commutesWith, conjugateWith, zeroPivot, rotation, toldString, toldBool}
+
+pub data Question : Type 0 where
+  -- do the two strings commute? 1 for yes
+  commute? : ℕ → ℕ → Question
+  -- the first string, conjugated with the second
+  conjugated? : ℕ → ℕ → Question
+  rotation? : ℕ → Question
+  blanked? : ℕ → Question
+  -- the inverse of an automorphism
+  inverse? : ℕ → ℕ → Question
+
+abbrev pub asked : Question → Told
+asked (commute? p r) = toldBool (commutesWith qubits p r)
+asked (conjugated? p r) = toldString (conjugateWith qubits p r)
+asked (rotation? n) = toldString (rotation qubits n)
+asked (blanked? p) = toldString (zeroPivot qubits p)
+asked (inverse? x y) = toldPair (inverse (ofPair x y))
+
+pub record Row : Type 0 where
+  pub question : Question
+  pub answer : Told
+
+-- a row that is answered, and a row that is refused with zeros
+abbrev pub is : Question → List ℕ → Row
+is q vs = record { question = q; answer = record { number = 0; needed = 0; values = vs } }
+
+abbrev pub refuses : Question → ℕ → List ℕ → Row
+refuses q n vs = record { question = q; answer = record { number = n; needed = 0; values = vs } }
+
+abbrev pub rows : List Row
+rows =
+    is (commute? 1 4096) (0 ∷ [])
+    ∷ is (conjugated? 1 4096) (4097 ∷ [])
+    ∷ is (commute? 65 266240) (1 ∷ [])
+    ∷ is (rotation? 1) (2 ∷ [])
+    ∷ is (rotation? 2048) (8192 ∷ [])
+    ∷ is (rotation? 4194303) (16773118 ∷ [])
+    ∷ refuses (rotation? 4194304) 4 (0 ∷ [])
+    ∷ is (blanked? 4288) (192 ∷ [])
+    ∷ is (blanked? 4097) (0 ∷ [])
+    ∷ is (inverse? 4 5) (2 ∷ 1 ∷ [])
+    ∷ []
+
+pub every-row-is-right : map (λ (r : Row). asked (r .question)) rows ≡ map (λ (r : Row). r .answer) rows
+unfolding rank same clash bit letterAt clashes commute conj pivotBits blank rotationOf
+every-row-is-right = refl

@@ -1,0 +1,1 @@
+// What Kolidamuth promises, as theorems: specs/ is the part to read. The crate has no code.
