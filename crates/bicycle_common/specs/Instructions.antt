@@ -7,7 +7,7 @@ use lib.ListN.{length, replicate}
 use Rattle.bicycle_common.specs.declared.BicycleISA.{BicycleISA}
 use Rattle.bicycle_common.specs.declared.BicycleISA.the-variants.{Automorphism, Measure}
 use Rattle.bicycle_common.specs.declared.Pauli.{Pauli}
-use Rattle.bicycle_common.specs.declared.Text.{Text}
+use Rattle.bicycle_common.specs.declared.IsaText.{IsaText}
 use Rattle.bicycle_common.specs.Letters.{capital}
 use Rattle.bicycle_common.specs.Automorphisms.{component}
 
@@ -33,8 +33,8 @@ instructionText (Automorphism a) = autText (component (a .x)) (component (a .y))
 instructionText (Measure b) = measText (b .p1) (b .p7)
 
 -- text in nine bytes, with zeros behind it
-abbrev pub shown : List ℕ → Text
+abbrev pub shown : List ℕ → IsaText
 shown t = record { bytes = t ++ replicate (9 - length t) 0; len = length t }
 
-abbrev pub instructionShown : BicycleISA → Text
+abbrev pub instructionShown : BicycleISA → IsaText
 instructionShown i = shown (instructionText i)

@@ -1,9 +1,11 @@
 -- The refusals by document 01's numbers, and what a caller is told by an answer. Assumes nothing.
 use mathlib.Core.List.{List}
 use Prim.Native.Nat.{ℕ}
-use lib.ListN.{replicate}
+use lib.ListN.{length, replicate}
 use Rattle.bicycle_common.specs.declared.Refusal.{Refusal}
 use Rattle.bicycle_common.specs.declared.Refusal.the-variants.{TableLength, QueueLength, Matrix, StringRange, Identity, PivotSet, NoEntry, BadEntry, Room, PivotIdentity, NativeRange, PlanInput, NotLetters, QubitRange}
+use Rattle.bicycle_common.specs.declared.Outcome.{Outcome}
+use Rattle.bicycle_common.specs.declared.Outcome.the-variants.{Done, Refused}
 
 -- the first column of the table "Numbers a caller sees"
 abbrev pub numberOf : Refusal → ℕ
@@ -39,6 +41,8 @@ neededOf PlanInput = 0
 neededOf NotLetters = 0
 neededOf QubitRange = 0
 
+-- ---- what a caller is told
+
 -- What a caller is told by any answer: document 01's number, 0 where nothing is refused; the length needed, with 9; and the
 -- answer's values, all zeros on a refusal.
 pub record Told : Type 0 where
@@ -52,3 +56,8 @@ answered vs = record { number = 0; needed = 0; values = vs }
 -- the refusal r of a call that answers k values
 abbrev pub refused : ℕ → Refusal → Told
 refused k r = record { number = numberOf r; needed = neededOf r; values = replicate k 0 }
+
+-- of values in an array, beside which the outcome stands
+abbrev pub toldOutcome : Outcome → List ℕ → Told
+toldOutcome Done vs = answered vs
+toldOutcome (Refused r) vs = refused (length vs) r

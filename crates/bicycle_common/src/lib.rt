@@ -2,7 +2,7 @@
 //
 // Follows crates/bicycle_common/src/lib.rs of the Bicycle Architecture Compiler. Changed: written anew in Rattle, with
 // contracts; methods take `self` by value, `Option` became enums, operators and `Display` became plain functions, and
-// what document 01 leaves out is not here. `Refusal`, `Outcome`, `LetterAnswer` and `Text` are added.
+// what document 01 leaves out is not here. `Refusal`, `Outcome`, `LetterAnswer` and `IsaText` are added.
 //
 // Copyright contributors to the Bicycle Architecture Compiler project. Licensed under the Apache License, Version 2.0
 // (see NOTICE).
@@ -280,14 +280,14 @@ pub enum BicycleISA {
 }
 
 // An instruction as text: `len` bytes, then zeros.
-pub struct Text {
+pub struct IsaText {
     pub bytes: [u8; 9],
     pub len: usize,
 }
 
 impl BicycleISA {
     // The text of an instruction, as `aut(4,5)` or `meas(X,Z)`.
-    pub fn display(self) -> Text
+    pub fn display(self) -> IsaText
         ensures { λ r. ⌜ r ≡ instructionShown self ⌝ }
     {
         match self {
@@ -295,13 +295,13 @@ impl BicycleISA {
                 let x = b'0' + data.get_x();
                 let y = b'0' + data.get_y();
                 let bytes = [b'a', b'u', b't', b'(', x, b',', y, b')', 0];
-                Text { bytes, len: 8 }
+                IsaText { bytes, len: 8 }
             }
             BicycleISA::Measure(bases) => {
                 let p1 = bases.get_basis_1().display();
                 let p7 = bases.get_basis_7().display();
                 let bytes = [b'm', b'e', b'a', b's', b'(', p1, b',', p7, b')'];
-                Text { bytes, len: 9 }
+                IsaText { bytes, len: 9 }
             }
         }
     }

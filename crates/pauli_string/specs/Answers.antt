@@ -14,7 +14,8 @@ use Rattle.bicycle_common.specs.declared.Outcome.{Outcome}
 use Rattle.bicycle_common.specs.declared.Outcome.the-variants.{Done, Refused as Failed}
 use Rattle.bicycle_common.specs.declared.LetterAnswer.{LetterAnswer}
 use Rattle.bicycle_common.specs.declared.LetterAnswer.the-variants.{Is as LetterIs, Refused as NoLetter}
-use Rattle.bicycle_common.specs.Refusals.{Told, answered, refused}
+use Rattle.bicycle_common.specs.Refusals.{Told, answered, refused, toldOutcome}
+use Rattle.bicycle_common.specs.Letters.{rank}
 use Rattle.pauli_string.specs.declared.Letter.{Letter}
 use Rattle.pauli_string.specs.declared.StringAnswer.{StringAnswer}
 use Rattle.pauli_string.specs.declared.StringAnswer.the-variants.{Is as StringIs, Refused as NoString}
@@ -89,11 +90,18 @@ setPauli q p i l = stringAt q p (cond (ltb i q) (string (setLetter q p i l)) (No
 abbrev pub lettersAnswer : Outcome → List Pauli → LettersAnswer
 lettersAnswer o ls = record { outcome = o; letters = map (λ (l : Pauli). record { 0 = l }) ls }
 
+-- the letters' places in the order I, X, Z, Y
+abbrev pub toldLetters : LettersAnswer → Told
+toldLetters a = toldOutcome (a .outcome) (map (λ (l : Letter). rank (l .0)) (a .letters))
+
 abbrev pub toLetters : ℕ → ℕ → LettersAnswer
 toLetters q p = cond (isString q p) (lettersAnswer Done (letters q p)) (lettersAnswer (Failed StringRange) (replicate q I))
 
 abbrev pub textAnswer : Outcome → List ℕ → TextAnswer
 textAnswer o bs = record { outcome = o; bytes = bs }
+
+abbrev pub toldText : TextAnswer → Told
+toldText a = toldOutcome (a .outcome) (a .bytes)
 
 abbrev pub printed : ℕ → ℕ → TextAnswer
 printed q p = cond (isString q p) (textAnswer Done (text q p)) (textAnswer (Failed StringRange) (replicate q 0))
