@@ -1,24 +1,14 @@
 -- The text of an instruction. Assumes nothing.
-use mathlib.Core.List.{List, [], _∷_, _++_}
-use Prim.Native.Nat.{ℕ, _+_, _-_}
-use Prim.Native.Char.{code}
-use Prim.Native.String.{String, [] as none, _∷_ as _then_}
+use mathlib.Core.List.{List, _∷_, _++_}
+use Prim.Native.Nat.{ℕ, _-_}
 use lib.ListN.{length, replicate}
 use Rattle.bicycle_common.specs.declared.BicycleISA.{BicycleISA}
 use Rattle.bicycle_common.specs.declared.BicycleISA.the-variants.{Automorphism, Measure}
 use Rattle.bicycle_common.specs.declared.Pauli.{Pauli}
 use Rattle.bicycle_common.specs.declared.IsaText.{IsaText}
+use Rattle.bicycle_common.specs.Bytes.{bytesOf, digit}
 use Rattle.bicycle_common.specs.Letters.{capital}
 use Rattle.bicycle_common.specs.Automorphisms.{component}
-
--- the bytes of a text
-abbrev pub bytesOf : String → List ℕ
-bytesOf none = []
-bytesOf (c then s) = code c ∷ bytesOf s
-
--- one decimal digit
-abbrev pub digit : ℕ → ℕ
-digit d = code "0" + d
 
 -- aut(x,y)
 abbrev pub autText : ℕ → ℕ → List ℕ

@@ -1,9 +1,9 @@
 -- The four letters, which pairs of them anticommute, and the bytes that stand for them. Assumes nothing.
 use mathlib.Core.Bool.{Bool, true, false, cond, not, _&&_, _||_}
 use mathlib.Core.List.{[], _∷_}
-use Prim.Native.Nat.{ℕ, zero, suc, _+_, _-_, _*_}
+use Prim.Native.Nat.{ℕ, zero, suc, _+_, _*_}
 use Prim.Native.Char.{code}
-use lib.Dec.{eqb, leb}
+use lib.Dec.{eqb}
 use Rattle.bicycle_common.specs.declared.Pauli.{Pauli}
 use Rattle.bicycle_common.specs.declared.Pauli.the-variants.{I, X, Z, Y}
 use Rattle.bicycle_common.specs.declared.Anticommuting.{Anticommuting}
@@ -75,10 +75,6 @@ capital Y = code "Y"
 -- ASCII's small letter stands 32 above the capital
 abbrev pub small : Pauli → ℕ
 small l = capital l + 32
-
--- a byte with ASCII's small letters turned to capitals
-unfoldable pub upper : ℕ → ℕ
-upper b = cond (leb (code "a") b && leb b (code "z")) (b - 32) b
 
 -- b stands for l, in either case
 abbrev pub standsFor : ℕ → Pauli → Bool

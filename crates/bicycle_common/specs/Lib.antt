@@ -1,5 +1,6 @@
 -- What the contracts of `bicycle_common` cite.
 pub mod Refusals
+pub mod Bytes
 pub mod Letters
 pub mod Automorphisms
 pub mod Instructions

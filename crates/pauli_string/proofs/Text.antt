@@ -17,7 +17,8 @@ use Rattle.bicycle_common.specs.declared.Pauli.{Pauli}
 use Rattle.bicycle_common.specs.declared.Pauli.the-variants.{I}
 use Rattle.bicycle_common.specs.declared.LetterAnswer.{LetterAnswer}
 use Rattle.bicycle_common.specs.declared.LetterAnswer.the-variants.{Is, Refused}
-use Rattle.bicycle_common.specs.Letters.{xOf, zOf, letter, capital, upper, readLetter}
+use Rattle.bicycle_common.specs.Bytes.{upper}
+use Rattle.bicycle_common.specs.Letters.{xOf, zOf, letter, capital, readLetter}
 use Rattle.bicycle_common.proofs.Letters.{xOf-lt, zOf-lt, letter-digits, digit-x, digit-z, read-capital, read-upper}
 use Rattle.bicycle_common.specs.declared.Refusal.the-variants.{NotLetters}
 use Rattle.pauli_string.specs.declared.PauliString.{PauliString}

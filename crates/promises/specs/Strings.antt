@@ -1,6 +1,6 @@
 -- What holds of strings, letters and text, at the twelve qubits of the architecture. Each is a case of a law over any number of
 -- qubits, in `pauli_string`. Assumes nothing.
-use mathlib.Core.Path.{_≡_, sym, ap, subst, _∙_}
+use mathlib.Core.Path.{_≡_, refl, sym, ap, subst, _∙_}
 use mathlib.Core.Bool.{true, false, Bool·beq}
 use mathlib.Core.Logic.{_↔_}
 use mathlib.Core.List.{List, map, reverse}
@@ -10,10 +10,11 @@ use lib.ListN.{length}
 use lib.Bits.{bitXor}
 use Rattle.bicycle_common.specs.declared.Pauli.{Pauli}
 use Rattle.bicycle_common.specs.declared.Refusal.the-variants.{NotLetters}
-use Rattle.bicycle_common.specs.Letters.{upper}
+use Rattle.bicycle_common.specs.Bytes.{bytesOf, upper}
+use Rattle.bicycle_common.specs.Letters.{readLetter}
 use Rattle.pauli_string.specs.declared.StringAnswer.the-variants.{Refused}
 use Rattle.pauli_string.specs.Strings.{qubits, letterAt, commute, conj, hasPivot, rotate, logicalBits, rotationOf}
-use Rattle.pauli_string.specs.Text.{letters, stringOf, text}
+use Rattle.pauli_string.specs.Text.{letters, number, stringOf, text, letterOf, allLetters, isText, spelled}
 use Rattle.pauli_string.specs.Answers.{string, readText}
 use Rattle.pauli_string.proofs.Commutation as Commutation
 use Rattle.pauli_string.proofs.Pivot as Pivot
@@ -74,6 +75,11 @@ pub accepted-prints-capitals : (s : List ℕ) (p : ℕ) → readText qubits s �
 accepted-prints-capitals s p e =
     let r = Text.read-as qubits s p e in
     ap (text qubits) (sym (r .1)) ∙ Text.text-spelled qubits s (r .0)
+
+-- qubit 11 stands first
+pub first-letter-is-qubit-11 : (readText qubits (bytesOf "XIIIIIIIIIII") ≡ string 2048) × (readText qubits (bytesOf "IIIIIIIIIIIX") ≡ string 1)
+unfolding readLetter letterOf allLetters isText number stringOf spelled
+first-letter-is-qubit-11 = (refl, refl)
 
 -- ---- the mirror: a text read backwards is the string with its letters in reverse order
 

@@ -2,9 +2,10 @@
 use mathlib.Core.Path.{sym, ap, ap₂, _∙_}
 use mathlib.Core.List.{_∷_, _++_}
 use Prim.Native.Nat.{ℕ}
+use Rattle.bicycle_common.specs.Bytes.{bytesOf}
 use Rattle.bicycle_common.specs.Letters.{capital}
 use borrow.Author.Needs.{needs}
-use Rattle.bicycle_common.specs.Instructions.{bytesOf, autText, shown, instructionShown}
+use Rattle.bicycle_common.specs.Instructions.{autText, shown, instructionShown}
 use Rattle.bicycle_common.proofs.BicycleISA.display.Statement.{statement}
 use Rattle.bicycle_common.proofs.BicycleISA.display.Tie as tie
 
