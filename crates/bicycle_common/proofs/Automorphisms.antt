@@ -1,9 +1,9 @@
 -- Shift automorphisms are a commutative group: each law is arithmetic modulo 6 in both components. Assumes nothing.
 use mathlib.Core.Path.{_≡_, ap₂}
-use Prim.Native.Nat.{ℕ, _+_, _-_, _%_}
+use Prim.Native.Nat.{ℕ, _-_}
 use native.Mathlib.Omega.{arith}
 use Rattle.bicycle_common.specs.declared.AutomorphismData.{AutomorphismData}
-use Rattle.bicycle_common.specs.Automorphisms.{component, ofPair, product, opposite, inverse}
+use Rattle.bicycle_common.specs.Automorphisms.{ofPair, product, inverse}
 
 pub pair : {x x′ y y′ : ℕ} → x ≡ x′ → y ≡ y′ → _≡_ {A = AutomorphismData} (record { x = x; y = y }) (record { x = x′; y = y′ })
 pair e f = ap₂ (λ (a b : ℕ). record { x = a; y = b }) e f

@@ -15,7 +15,7 @@ use Rattle.bicycle_common.specs.declared.LetterAnswer.{LetterAnswer}
 use Rattle.bicycle_common.specs.declared.LetterAnswer.the-variants.{Is, Refused}
 use Rattle.bicycle_common.specs.declared.Refusal.the-variants.{NotLetters}
 use Rattle.bicycle_common.specs.Bytes.{upper}
-use Rattle.bicycle_common.specs.Letters.{xOf, zOf, letter, rank, isI, same, clash, anticommutingLetters, capital, small, standsFor, readLetter}
+use Rattle.bicycle_common.specs.Letters.{xOf, zOf, letter, rank, same, clash, anticommutingLetters, capital, small, standsFor, readLetter}
 use Rattle.bicycle_common.proofs.Tests.{bits, at-bit, letters, at-letter}
 
 pub beq→eq : (a b : Bool) → T (Bool·beq a b) → a ≡ b

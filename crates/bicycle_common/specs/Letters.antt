@@ -10,7 +10,6 @@ use Rattle.bicycle_common.specs.declared.Anticommuting.{Anticommuting}
 use Rattle.bicycle_common.specs.declared.Anticommuting.the-variants.{Letters, Identity}
 use Rattle.bicycle_common.specs.declared.LetterAnswer.{LetterAnswer}
 use Rattle.bicycle_common.specs.declared.LetterAnswer.the-variants.{Is, Refused}
-use Rattle.bicycle_common.specs.declared.TwoBases.{TwoBases}
 use Rattle.bicycle_common.specs.declared.TwoBasesAnswer.{TwoBasesAnswer}
 use Rattle.bicycle_common.specs.declared.TwoBasesAnswer.the-variants.{Is as BasesAre, BothIdentity}
 use Rattle.bicycle_common.specs.declared.Refusal.the-variants.{NotLetters}

@@ -3,7 +3,7 @@
 use mathlib.Core.Path.{_≡_, refl, sym, ap, ap₂, _∙_}
 use mathlib.Core.Bool.{Bool, true, false, Bool·beq, cond}
 use Prim.Native.Nat.{ℕ, zero, suc, _+_, _*_, _/_, _%_, _^_, _≤_, _<_, min}
-use native.Mathlib.Nat.{mod-lt, le-refl, le-of-lt, add-zero, zero-add, zero-mul, div-add-mod', zero-div}
+use native.Mathlib.Nat.{mod-lt, le-refl, le-of-lt, add-zero, zero-add, zero-mul, div-add-mod'}
 use native.Mathlib.Omega.{arith}
 use lib.Dec.{eqb, eqb→eq}
 use lib.Arith.{bin-ind}

@@ -1,16 +1,14 @@
 -- Binary digits of a number: of its halves, of the bit operations, and the count of those that are set. Assumes nothing.
-use mathlib.Core.Path.{_≡_, refl, sym, ap, ap₂, _∙_, subst}
-use Prim.Native.Nat.{ℕ, zero, suc, _+_, _-_, _*_, _/_, _%_, _^_, _≤_, _<_, min}
-use native.Mathlib.Nat.{mod-lt, mod-eq-of-lt, zero-lt-suc, add-comm, lt-of-lt-of-le, le-refl, min-le-left, mul-comm, pow-suc, zero-div, mul-div-cancel}
+use mathlib.Core.Path.{_≡_, refl, sym, ap, ap₂, _∙_}
+use Prim.Native.Nat.{ℕ, zero, suc, _+_, _-_, _*_, _/_, _%_, _^_, _<_, min}
+use native.Mathlib.Nat.{mod-lt, mod-eq-of-lt, zero-lt-suc, add-comm, zero-div, mul-div-cancel}
 use native.Mathlib.Omega.{arith}
-use lib.Dec.{T, eqb, eqb→eq}
-use lib.Arith.{digits-mod, digits-div, lt-one}
-use lib.Pow.{pow-pos, split, shr-lt, shr-shr, mod-pow-add, mod-mod-pow, field, pow-add}
+use lib.Arith.{lt-one}
+use lib.Pow.{pow-pos, shr-shr, mod-pow-add, mod-mod-pow, field}
 use native.Mathlib.Numerals.{add-one, one-add}
-use lib.Bits.{bitAnd, bitXor, differ, and-step, xor-step, and-shr, xor-shr, and-lt}
-use lib.Count.{ones, ones-cat, ones-step}
+use lib.Bits.{bitAnd, bitXor, differ, and-step, xor-step, and-shr, xor-shr}
+use lib.Count.{ones, ones-cat}
 use Rattle.pauli_string.specs.Strings.{bit}
-use Rattle.bicycle_common.proofs.Tests.{bits, at-bit}
 
 pub two-pos : 0 < 2
 two-pos = zero-lt-suc 1

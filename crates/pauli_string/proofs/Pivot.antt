@@ -1,21 +1,20 @@
 -- The pivot of a string of q letters: the masks that the program uses, that blanking takes away the letter on the pivot alone, and
 -- that a rotation keeps it. Assumes nothing.
-use mathlib.Core.Path.{_≡_, refl, sym, ap, ap₂, _∙_, subst}
-use mathlib.Core.Bool.{Bool, true, false, Bool·beq, cond, not, _&&_}
+use mathlib.Core.Path.{_≡_, refl, sym, ap, ap₂, _∙_}
+use mathlib.Core.Bool.{Bool, true, false, Bool·beq, cond, _&&_}
 use Prim.Native.Nat.{ℕ, zero, suc, _+_, _-_, _*_, _/_, _%_, _^_, _≤_, _<_}
-use native.Mathlib.Nat.{mod-lt, add-zero, div-add-mod', add-mul, mul-le-mul-left, le-trans}
+use native.Mathlib.Nat.{mod-lt, add-zero, div-add-mod', add-mul}
 use native.Mathlib.Omega.{arith}
 use lib.Dec.{eqb, eqb·suc-zero, lit<}
 use borrow.Author.Tests.{eq-eqb, ne-eqb, eqb-true, not-false}
 use lib.Pow.{pow-pos, split, shr-lt, pow-lt, pow-sub-lt, shr-mod, high, low}
 use lib.Bits.{bitAnd, bitXor, differ, and-block, and-mask, and-high}
-use Rattle.bicycle_common.specs.declared.Pauli.{Pauli}
 use Rattle.bicycle_common.specs.declared.Pauli.the-variants.{I}
 use Rattle.bicycle_common.specs.Letters.{letter, isI}
 use Rattle.bicycle_common.proofs.Tests.{bits, at-bit}
 use Rattle.bicycle_common.proofs.Letters.{beq→eq}
 use Rattle.pauli_string.specs.Strings.{bit, letterAt, commute, conj, pivotBits, blank, hasPivot, rotate}
-use Rattle.pauli_string.proofs.Digits.{two-pos, bit-lt, bit-first, bit-even, xor-bit, bit-high, bit-low}
+use Rattle.pauli_string.proofs.Digits.{bit-lt, bit-first, bit-even, xor-bit, bit-high, bit-low}
 use Rattle.pauli_string.proofs.Commutation.{conj-conj, conj-lt, conj-nonzero}
 
 -- ---- the masks

@@ -1,6 +1,6 @@
 -- `rotation` and `logical_bits`: the words that the program makes, and that each undoes the other. Assumes nothing.
 use mathlib.Core.Path.{_≡_, refl, sym, ap, ap₂, _∙_, subst}
-use mathlib.Core.Bool.{Bool, false, not, _&&_}
+use mathlib.Core.Bool.{Bool, false, _&&_}
 use Prim.Native.Nat.{ℕ, zero, suc, _+_, _-_, _*_, _/_, _%_, _^_, _≤_, _<_}
 use native.Mathlib.Nat.{mod-lt, mod-eq-of-lt, mul-div-cancel, lt-of-lt-of-le, mul-comm, mul-assoc, pow-suc}
 use native.Mathlib.Numerals.{add-one}
@@ -10,10 +10,9 @@ use borrow.Author.Tests.{ne-eqb}
 use lib.Arith.{digits-lt}
 use lib.Pow.{pow-pos, split, shr-lt, shl-exact, shl-lt, shr-shr, pow-add, pow-mono, high, low}
 use lib.Bits.{bitAnd, bitOr, and-mask, or-shifted}
-use Rattle.bicycle_common.specs.Letters.{isI}
-use Rattle.pauli_string.specs.Strings.{bit, blank, pivotBits, hasPivot, hasLogical, letterAt, logicalBits, rotationOf}
+use Rattle.pauli_string.specs.Strings.{bit, blank, pivotBits, hasPivot, logicalBits, rotationOf}
 use Rattle.pauli_string.proofs.Digits.{two-pos, bit-low, bit-high, bit-first, bit-double}
-use Rattle.pauli_string.proofs.Pivot.{zero-parts, pivot-zero, blank-halves, blank-same}
+use Rattle.pauli_string.proofs.Pivot.{zero-parts, blank-halves, blank-same}
 
 -- ---- the words, in w bits
 

@@ -9,8 +9,8 @@ use native.Mathlib.Numerals.{add-one, one-add}
 use native.Mathlib.Omega.{arith}
 use lib.Dec.{eqb}
 use borrow.Author.Tests.{eq-eqb, ne-eqb, eqb-true}
-use lib.Arith.{digits-lt, lt-one, digits-mod, digits-div}
-use lib.Pow.{pow-pos, pow-mono, pow-add, split, shr-lt, shr-shr, shr-mod, mod-pow-add, high, low}
+use lib.Arith.{digits-lt, lt-one}
+use lib.Pow.{pow-pos, pow-mono, pow-add, split, shr-shr, shr-mod, mod-pow-add, high, low}
 use lib.ListN.{length, getD, take, drop, set, length-set, length-map, length-reverse, length-drop, List·getD-map}
 use lib.Seq.{drop-cons, drop-length, take-suc, take-all, ext-getD}
 use Rattle.bicycle_common.specs.declared.Pauli.{Pauli}
@@ -26,7 +26,7 @@ use Rattle.pauli_string.specs.declared.StringAnswer.the-variants.{Refuse
 use Rattle.pauli_string.specs.Strings.{bit, letterAt}
 use Rattle.pauli_string.specs.Answers.{string, readText}
 use Rattle.pauli_string.specs.Text.{lettersFrom, letters, number, stringOf, text, good, theLetter, letterOf, allLetters, isText, spelled}
-use Rattle.pauli_string.proofs.Digits.{two-pos, bit-lt, bit-first, bit-high, bit-low}
+use Rattle.pauli_string.proofs.Digits.{bit-lt, bit-first, bit-high, bit-low}
 use Rattle.pauli_string.proofs.Lists.{getD-reverse, map-reverse, reverse-snoc, drop-set}
 
 -- ---- arrays of letters

@@ -1,14 +1,13 @@
 -- What each public call answers: 4 for a number that is no string of q letters, 14 for a qubit that is none, 13 for text that is none.
 -- The lowest number that applies is given. Assumes nothing.
-use mathlib.Core.Bool.{Bool, cond, _&&_}
+use mathlib.Core.Bool.{cond, _&&_}
 use mathlib.Core.List.{List, [], _∷_, map}
-use Prim.Native.Nat.{ℕ, _-_, _^_}
+use Prim.Native.Nat.{ℕ, _-_}
 use lib.ListN.{replicate}
 use lib.Dec.{ltb}
 use lib.Bits.{bitXor}
 use Rattle.bicycle_common.specs.declared.Pauli.{Pauli}
 use Rattle.bicycle_common.specs.declared.Pauli.the-variants.{I}
-use Rattle.bicycle_common.specs.declared.Refusal.{Refusal}
 use Rattle.bicycle_common.specs.declared.Refusal.the-variants.{StringRange, NotLetters, QubitRange}
 use Rattle.bicycle_common.specs.declared.Outcome.{Outcome}
 use Rattle.bicycle_common.specs.declared.Outcome.the-variants.{Done, Refused as Failed}
@@ -24,7 +23,7 @@ use Rattle.pauli_string.specs.declared.BoolAnswer.the-variants.{Is as Bo
 use Rattle.pauli_string.specs.declared.LettersAnswer.{LettersAnswer}
 use Rattle.pauli_string.specs.declared.TextAnswer.{TextAnswer}
 use Rattle.pauli_string.specs.Strings.{isString, flag, commute, conj, pivotBits, blank, hasPivot, hasLogical, logicalBits, rotationOf, letterAt, setLetter}
-use Rattle.pauli_string.specs.Text.{letters, stringOf, text, isText, spelled}
+use Rattle.pauli_string.specs.Text.{letters, text, isText, spelled}
 
 -- ---- the answers, and what a caller is told by each
 

@@ -1,5 +1,5 @@
 -- Strings of q letters, as numbers: digit i is X on qubit i, digit q + i is Z, both are Y. Qubit 0 is the pivot. Assumes nothing.
-use mathlib.Core.Bool.{Bool, cond, not, _&&_}
+use mathlib.Core.Bool.{Bool, cond, not}
 use Prim.Native.Nat.{ℕ, zero, suc, _+_, _-_, _*_, _/_, _%_, _^_}
 use lib.Dec.{eqb, ltb}
 use lib.Bits.{bitXor}

@@ -14,6 +14,8 @@ pub data Question : Type 0 where
   commute? : ℕ → ℕ → Question
   -- the first string, conjugated with the second
   conjugated? : ℕ → ℕ → Question
+  -- the first string, conjugated with the second blanked
+  rotated? : ℕ → ℕ → Question
   rotation? : ℕ → Question
   blanked? : ℕ → Question
   -- the inverse of an automorphism
@@ -22,6 +24,7 @@ pub data Question : Type 0 where
 abbrev pub asked : Question → Told
 asked (commute? p r) = toldBool (commutesWith qubits p r)
 asked (conjugated? p r) = toldString (conjugateWith qubits p r)
+asked (rotated? p r) = toldString (conjugateWith qubits p (blank qubits r))
 asked (rotation? n) = toldString (rotation qubits n)
 asked (blanked? p) = toldString (zeroPivot qubits p)
 asked (inverse? x y) = toldPair (inverse (ofPair x y))
@@ -48,6 +51,7 @@ rows =
     ∷ refuses (rotation? 4194304) 4 (0 ∷ [])
     ∷ is (blanked? 4288) (192 ∷ [])
     ∷ is (blanked? 4097) (0 ∷ [])
+    ∷ is (rotated? 262145 4288) (262337 ∷ [])
     ∷ is (inverse? 4 5) (2 ∷ 1 ∷ [])
     ∷ []
 

@@ -1,5 +1,4 @@
 -- `bicycle_common::AutomorphismData::is_id` meets its contract: the second test decides where the first holds. Assumes nothing.
-use mathlib.Core.Path.{sym}
 use borrow.Author.Tests.{eq-eqb, ne-eqb}
 use Rattle.bicycle_common.proofs.AutomorphismData.is_id.Statement.{statement}
 use Rattle.bicycle_common.proofs.AutomorphismData.is_id.Tie as tie

@@ -1,6 +1,5 @@
 -- `pauli_string::PauliString::display_unchecked` meets its contract: the loop fills the array from the front with the text of the string.
 -- Assumes nothing.
-use mathlib.Core.List.{List}
 use mathlib.Core.Path.{_≡_, refl, sym, ap, _∙_}
 use Prim.Native.Nat.{ℕ, _-_, _≤_, _<_}
 use native.Mathlib.Omega.{arith}

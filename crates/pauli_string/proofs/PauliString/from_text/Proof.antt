@@ -1,9 +1,8 @@
 -- `pauli_string::PauliString::from_text` meets its contract: the loop reads the text from its front into the array from its end, and any byte
 -- that stands for no letter ends it. Assumes nothing.
 use mathlib.Core.List.{List}
-use mathlib.Core.Path.{_≡_, refl}
-use mathlib.Core.Path.{sym, ap, _∙_}
-use Prim.Native.Nat.{ℕ, _-_, _<_, _≤_}
+use mathlib.Core.Path.{_≡_, refl, sym, ap, _∙_}
+use Prim.Native.Nat.{ℕ, _-_}
 use native.Mathlib.Omega.{arith}
 use lib.ListN.{length}
 use borrow.Author.Needs.{needs}

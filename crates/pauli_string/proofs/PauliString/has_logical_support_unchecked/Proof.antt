@@ -1,5 +1,5 @@
 -- `pauli_string::PauliString::has_logical_support_unchecked` meets its contract: the logical digits are zero where the blanked string is. Assumes nothing.
-use mathlib.Core.Bool.{Bool, not}
+use mathlib.Core.Bool.{not}
 use mathlib.Core.Path.{_∙_, ap}
 use Prim.Native.Nat.{ℕ}
 use lib.Dec.{eqb}

@@ -1,5 +1,5 @@
 -- `pauli_string::PauliString::has_pivot_support_unchecked` meets its contract: the pivot is blank where its digits are zero. Assumes nothing.
-use mathlib.Core.Bool.{Bool, not}
+use mathlib.Core.Bool.{not}
 use mathlib.Core.Path.{_∙_, ap}
 use Prim.Native.Nat.{ℕ}
 use lib.Dec.{eqb}

@@ -5,7 +5,6 @@ use borrow.Author.Needs.{needs}
 use borrow.Author.Tests.{lt-ltb, le-ltb}
 use Rattle.bicycle_common.specs.declared.Outcome.the-variants.{Done}
 use Rattle.pauli_string.specs.declared.Letter.{Letter}
-use Rattle.pauli_string.specs.declared.LettersAnswer.{LettersAnswer}
 use Rattle.pauli_string.proofs.PauliString.letters.Statement.{statement}
 use Rattle.pauli_string.proofs.PauliString.letters.Tie as tie
 
