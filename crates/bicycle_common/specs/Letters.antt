@@ -48,12 +48,10 @@ isI Z = false
 isI Y = false
 
 unfoldable pub same : Pauli → Pauli → Bool
-unfolding rank
 same a b = eqb (rank a) (rank b)
 
 -- the textbook rule at one qubit: two letters anticommute where both are non-identity and differ
 unfoldable pub clash : Pauli → Pauli → Bool
-unfolding same
 clash a b = not (isI a) && not (isI b) && not (same a b)
 
 -- the letters that anticommute with a letter, in the order of the letters

@@ -21,7 +21,6 @@ lettersFrom q p i (suc k) = letterAt q p i ∷ lettersFrom q p (suc i) k
 
 -- the letters of p, qubit 0 first
 unfoldable pub letters : ℕ → ℕ → List Pauli
-unfolding lettersFrom
 letters q p = lettersFrom q p 0 q
 
 -- the number whose binary digits f gives for each letter, the first letter's lowest
@@ -31,14 +30,12 @@ number f (l ∷ ls) = number f ls * 2 + f l
 
 -- the string of q letters: X digits, and Z digits q places higher
 unfoldable pub stringOf : ℕ → List Pauli → ℕ
-unfolding number
 stringOf q ls = number zOf ls * 2 ^ q + number xOf ls
 
 -- ---- text
 
 -- the text of p
 unfoldable pub text : ℕ → ℕ → List ℕ
-unfolding letters
 text q p = map capital (reverse (letters q p))
 
 abbrev pub good : LetterAnswer → Bool
@@ -60,10 +57,8 @@ allLetters (b ∷ s) = good (readLetter b) && allLetters s
 
 -- s is text of q letters
 unfoldable pub isText : ℕ → List ℕ → Bool
-unfolding allLetters
 isText q s = eqb (length s) q && allLetters s
 
 -- the string that it spells
 unfoldable pub spelled : ℕ → List ℕ → ℕ
-unfolding letterOf stringOf
 spelled q s = stringOf q (reverse (map letterOf s))
