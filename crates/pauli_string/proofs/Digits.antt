@@ -1,10 +1,10 @@
 -- Binary digits of a number: of its halves, of the bit operations, and the count of those that are set. Assumes nothing.
-use mathlib.Core.Path.{_≡_, refl, sym, ap, ap₂, _∙_}
+use mathlib.Core.Path.{_≡_, refl, sym, ap, ap₂, subst, _∙_}
 use Prim.Native.Nat.{ℕ, zero, suc, _+_, _-_, _*_, _/_, _%_, _^_, _<_, min}
-use native.Mathlib.Nat.{mod-lt, mod-eq-of-lt, zero-lt-suc, add-comm, zero-div, mul-div-cancel}
+use native.Mathlib.Nat.{mod-lt, mod-eq-of-lt, zero-lt-suc, add-comm, add-mul, div-add-mod', zero-div, mul-div-cancel}
 use native.Mathlib.Omega.{arith}
 use lib.Arith.{lt-one}
-use lib.Pow.{pow-pos, shr-shr, mod-pow-add, mod-mod-pow, field}
+use lib.Pow.{pow-pos, shr-lt, shr-shr, mod-pow-add, mod-mod-pow, field}
 use native.Mathlib.Numerals.{add-one, one-add}
 use lib.Bits.{bitAnd, bitXor, differ, and-step, xor-step, and-shr, xor-shr}
 use lib.Count.{ones, ones-cat}
@@ -24,6 +24,18 @@ bit-zero i = ap (λ (n : ℕ). n % 2) (zero-div (2 ^ i))
 pub bit-first : (n : ℕ) → bit n 0 ≡ n % 2
 unfolding bit
 bit-first n = omega arith
+
+-- a double is even
+pub even : (n : ℕ) → n * 2 % 2 ≡ 0
+even n = omega arith
+
+-- a multiple of P by the lowest digit of the factor, and the rest of it
+pub halved : (n P : ℕ) → n * P ≡ n / 2 * 2 * P + n % 2 * P
+halved n P = ap (λ (m : ℕ). m * P) (sym (div-add-mod' n 2)) ∙ add-mul (n / 2 * 2) (n % 2) P
+
+-- the half of the digits below k + 1 has k digits
+pub half-lt : (k n : ℕ) → n % 2 ^ suc k / 2 < 2 ^ k
+half-lt k n = shr-lt k 1 (subst (λ (e : ℕ). n % 2 ^ suc k < 2 ^ e) (sym (add-one k)) (mod-lt n (pow-pos (suc k))))
 
 -- the lowest digit of a word that was put together
 pub low-digit : (n r d : ℕ) → d < 2 → n ≡ r * 2 + d → n % 2 ≡ d

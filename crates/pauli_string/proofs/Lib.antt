@@ -1,5 +1,6 @@
 -- Laws that belong to no one function.
 pub mod Digits
+pub mod Range
 pub mod Places
 pub mod Commutation
 pub mod Pivot

@@ -1,7 +1,7 @@
 -- Lists in reverse, and lists that a loop fills from either end. Assumes nothing.
 use mathlib.Core.Path.{_≡_, refl, sym, ap, ap₂, _∙_}
 use mathlib.Core.Bool.{Bool, true, false}
-use mathlib.Core.List.{List, [], _∷_, _++_, map, map-append, reverse, reverse-cons, reverse-append}
+use mathlib.Core.List.{List, [], _∷_, _++_, reverse, reverse-cons, reverse-append}
 use Prim.Native.Nat.{ℕ, suc, _+_, _-_, _≤_, _<_}
 use native.Mathlib.Nat.{not-suc-le-zero}
 use native.Mathlib.Numerals.{add-one}
@@ -53,8 +53,3 @@ module _ {A : Type 0} where
 
   pub reverse-snoc : (l : List A) (a : A) → reverse (l ++ (a ∷ [])) ≡ a ∷ reverse l
   reverse-snoc l a = reverse-append l (a ∷ [])
-
-pub map-reverse : {A B : Type 0} (f : A → B) (l : List A) → map f (reverse l) ≡ reverse (map f l)
-map-reverse f [] = refl
-map-reverse f (x ∷ l) =
-    ap (map f) (reverse-cons x l) ∙ map-append f (reverse l) (x ∷ []) ∙ ap (λ m. m ++ (f x ∷ [])) (map-reverse f l) ∙ sym (reverse-cons (f x) (map f l))

@@ -3,7 +3,7 @@
 use mathlib.Core.Path.{_≡_, refl, sym, ap, ap₂, _∙_}
 use mathlib.Core.Bool.{Bool, true, false, Bool·beq, cond, _&&_}
 use Prim.Native.Nat.{ℕ, zero, suc, _+_, _-_, _*_, _/_, _%_, _^_, _≤_, _<_}
-use native.Mathlib.Nat.{mod-lt, add-zero, div-add-mod', add-mul}
+use native.Mathlib.Nat.{mod-lt, add-zero, add-mul}
 use native.Mathlib.Omega.{arith}
 use lib.Dec.{eqb, eqb·suc-zero, lit<}
 use borrow.Author.Tests.{eq-eqb, ne-eqb, eqb-true, not-false}
@@ -14,7 +14,7 @@ use Rattle.bicycle_common.specs.Letters.{letter, isI}
 use Rattle.bicycle_common.proofs.Tests.{bits, at-bit}
 use Rattle.bicycle_common.proofs.Letters.{beq→eq}
 use Rattle.pauli_string.specs.Strings.{bit, letterAt, commute, conj, pivotBits, blank, hasPivot, rotate}
-use Rattle.pauli_string.proofs.Digits.{bit-lt, bit-first, bit-even, xor-bit, bit-high, bit-low}
+use Rattle.pauli_string.proofs.Digits.{even, halved, bit-lt, bit-first, bit-even, xor-bit, bit-high, bit-low}
 use Rattle.pauli_string.proofs.Commutation.{conj-conj, conj-lt, conj-nonzero}
 
 -- ---- the masks
@@ -30,8 +30,7 @@ pivot-mask q p h =
 -- taking the lowest digit off both halves
 halves-sub : (n P a b : ℕ) → n ≡ a * P + b → n - (a % 2 * P + b % 2) ≡ a / 2 * 2 * P + b / 2 * 2
 halves-sub n P a b e =
-    let d : a * P ≡ a / 2 * 2 * P + a % 2 * P = ap (λ (m : ℕ). m * P) (sym (div-add-mod' a 2)) ∙ add-mul (a / 2 * 2) (a % 2) P in
-    omega arith
+    omega (arith, halved a P)
 
 pub blank-halves : (q p : ℕ) → 0 < q → blank q p ≡ p / 2 ^ q / 2 * 2 * 2 ^ q + p % 2 ^ q / 2 * 2
 unfolding blank pivotBits bit
@@ -82,16 +81,13 @@ blank-lo q p h =
     let k : p % 2 ^ q / 2 * 2 < 2 ^ q = omega (arith, mod-lt p (pow-pos q)) in
     ap (λ (n : ℕ). n % 2 ^ q) (blank-halves q p h) ∙ low (p / 2 ^ q / 2 * 2) q k
 
-even-mod : (n : ℕ) → n / 2 * 2 % 2 ≡ 0
-even-mod n = omega arith
-
 blank-x : (q p : ℕ) → 0 < q → bit (blank q p) 0 ≡ 0
 blank-x q p h =
-    sym (bit-low (blank q p) q 0 h) ∙ ap (λ (n : ℕ). bit n 0) (blank-lo q p h) ∙ bit-first (p % 2 ^ q / 2 * 2) ∙ even-mod (p % 2 ^ q)
+    sym (bit-low (blank q p) q 0 h) ∙ ap (λ (n : ℕ). bit n 0) (blank-lo q p h) ∙ bit-first (p % 2 ^ q / 2 * 2) ∙ even (p % 2 ^ q / 2)
 
 blank-z : (q p : ℕ) → 0 < q → bit (blank q p) q ≡ 0
 unfolding bit
-blank-z q p h = ap (λ (n : ℕ). n % 2) (blank-hi q p h) ∙ even-mod (p / 2 ^ q)
+blank-z q p h = ap (λ (n : ℕ). n % 2) (blank-hi q p h) ∙ even (p / 2 ^ q / 2)
 
 pub blank-pivot : (q p : ℕ) → 0 < q → letterAt q (blank q p) 0 ≡ I
 unfolding letterAt

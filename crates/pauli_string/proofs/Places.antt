@@ -3,7 +3,7 @@
 use mathlib.Core.Path.{_≡_, refl, sym, ap, ap₂, _∙_, subst}
 use mathlib.Core.Bool.{Bool, true, false}
 use Prim.Native.Nat.{ℕ, _+_, _-_, _*_, _/_, _%_, _^_, _≤_, _<_}
-use native.Mathlib.Nat.{mod-lt, mod-eq-of-lt, div-add-mod', add-mul, add-zero, add-comm}
+use native.Mathlib.Nat.{mod-lt, mod-eq-of-lt, add-mul, add-zero, add-comm}
 use native.Mathlib.Omega.{arith}
 use lib.Arith.{digits-lt}
 use lib.Dec.{lit<, eqb, ltb, eqb→eq}
@@ -15,14 +15,12 @@ use Rattle.bicycle_common.specs.Letters.{xOf, zOf, letter}
 use Rattle.bicycle_common.proofs.Tests.{at-bit}
 use Rattle.bicycle_common.proofs.Letters.{xOf-lt, zOf-lt, letter-digits}
 use Rattle.pauli_string.specs.Strings.{bit, flag, setBit, letterAt, setLetter}
-use Rattle.pauli_string.proofs.Digits.{bit-lt, bit-high, bit-low}
+use Rattle.pauli_string.proofs.Digits.{halved, bit-lt, bit-high, bit-low}
 
 -- the digit d at the place of weight P becomes b
 set-split : (n P h r b : ℕ) → n ≡ h * P + r → (h / 2 * 2 + b) * P + r ≡ n - h % 2 * P + b * P
 set-split n P h r b e =
-    let d : h * P ≡ h / 2 * 2 * P + h % 2 * P = ap (λ (m : ℕ). m * P) (sym (div-add-mod' h 2)) ∙ add-mul (h / 2 * 2) (h % 2) P in
-    let f : (h / 2 * 2 + b) * P ≡ h / 2 * 2 * P + b * P = add-mul (h / 2 * 2) b P in
-    omega arith
+    omega (arith, halved h P, add-mul (h / 2 * 2) b P)
 
 or-one : (h : ℕ) → bitOr h 1 ≡ h / 2 * 2 + 1
 or-one h = or-step h 1 ∙ ap₂ (λ (a b : ℕ). a * 2 + b) (or-zero-r (h / 2)) (omega arith)

@@ -2,7 +2,7 @@
 use mathlib.Core.Path.{_≡_, refl, sym, ap, ap₂, _∙_, subst}
 use mathlib.Core.Bool.{Bool, false, _&&_}
 use Prim.Native.Nat.{ℕ, zero, suc, _+_, _-_, _*_, _/_, _%_, _^_, _≤_, _<_}
-use native.Mathlib.Nat.{mod-lt, mod-eq-of-lt, mul-div-cancel, lt-of-lt-of-le, mul-comm, mul-assoc, pow-suc}
+use native.Mathlib.Nat.{mod-lt, mod-eq-of-lt, mul-div-cancel, lt-of-lt-of-le, mul-comm, mul-assoc}
 use native.Mathlib.Numerals.{add-one}
 use native.Mathlib.Omega.{arith}
 use lib.Dec.{eqb, eqb·suc-zero}
@@ -11,7 +11,7 @@ use lib.Arith.{digits-lt}
 use lib.Pow.{pow-pos, split, shr-lt, shl-exact, shl-lt, shr-shr, pow-add, pow-mono, high, low}
 use lib.Bits.{bitAnd, bitOr, and-mask, or-shifted}
 use Rattle.pauli_string.specs.Strings.{bit, blank, pivotBits, hasPivot, logicalBits, rotationOf}
-use Rattle.pauli_string.proofs.Digits.{two-pos, bit-low, bit-high, bit-first, bit-double}
+use Rattle.pauli_string.proofs.Digits.{even, half-lt, two-pos, bit-low, bit-high, bit-first, bit-double}
 use Rattle.pauli_string.proofs.Pivot.{zero-parts, blank-halves, blank-same}
 
 -- ---- the words, in w bits
@@ -24,9 +24,6 @@ logical-word w j p h =
     ap₂ bitOr (mod-eq-of-lt h) (ap (λ (n : ℕ). n / 2) (and-mask p (suc j)))
     ∙ or-shifted (p / 2 ^ (suc j + 1)) j (p % 2 ^ suc j / 2) (half-lt j p)
     ∙ ap (λ (e : ℕ). p / 2 ^ (suc j + 1) * 2 ^ e + p % 2 ^ suc j / 2) (sym k)
-  where
-    half-lt : (j p : ℕ) → p % 2 ^ suc j / 2 < 2 ^ j
-    half-lt j p = shr-lt j 1 (subst (λ (e : ℕ). p % 2 ^ suc j < 2 ^ e) (sym (add-one j)) (mod-lt p (pow-pos (suc j))))
 
 pub rotation-word : (w j n : ℕ) → suc j + suc j ≤ w → n < 2 ^ (j + j)
     → bitOr ((n / 2 ^ j * 2 ^ (suc j + 1)) % 2 ^ w) ((bitAnd n (2 ^ j - 1) * 2) % 2 ^ w) ≡ rotationOf (suc j) n
@@ -78,9 +75,6 @@ rotation-z j n i =
     sym (bit-high (rotationOf (suc j) n) (suc j) (1 + i)) ∙ ap (λ (m : ℕ). bit m (1 + i)) (rotation-hi j n)
     ∙ bit-double (n / 2 ^ j) i ∙ bit-high n j i
 
-even : (m : ℕ) → m * 2 % 2 ≡ 0
-even m = omega arith
-
 pub rotation-pivot : (j n : ℕ) → pivotBits (suc j) (rotationOf (suc j) n) ≡ 0
 unfolding pivotBits bit
 rotation-pivot j n =
@@ -112,7 +106,7 @@ pub rotation-logical : (j p : ℕ) → rotationOf (suc j) (logicalBits (suc j) p
 rotation-logical j p =
     let a : ℕ = p / 2 ^ suc j / 2 in
     let b : ℕ = p % 2 ^ suc j / 2 in
-    let h : b < 2 ^ j = shr-lt j 1 (subst (λ (e : ℕ). p % 2 ^ suc j < 2 ^ e) (sym (add-one j)) (mod-lt p (pow-pos (suc j)))) in
+    let h : b < 2 ^ j = half-lt j p in
     ap (rotationOf (suc j)) (logical-halves j p)
     ∙ rotation-halves j (a * 2 ^ j + b)
     ∙ ap₂ (λ (m n : ℕ). m * 2 * 2 ^ suc j + n * 2) (high a j h) (low a j h)
@@ -135,10 +129,3 @@ logical-zero j p =
     double-zero : (n : ℕ) → eqb (n * 2) 0 ≡ eqb n 0
     double-zero zero = refl
     double-zero (suc n) = ne-eqb (suc n * 2) 0 (λ e. omega arith) ∙ sym (eqb·suc-zero n)
-
--- 4 ^ q and 2 ^ (q + q) are one bound
-pub four-pow : (q : ℕ) → 4 ^ q ≡ 2 ^ (q + q)
-four-pow zero = refl
-four-pow (suc q) =
-    let e : suc q + suc q ≡ q + q + 2 = omega arith in
-    pow-suc 4 q ∙ ap (λ (m : ℕ). m * 4) (four-pow q) ∙ sym (pow-add 2 (q + q) 2) ∙ ap (λ (k : ℕ). 2 ^ k) (sym e)

@@ -1,7 +1,8 @@
 -- Letters to string to letters, text to string to text, and what the mirror does to text. Assumes nothing.
 use mathlib.Core.Path.{_≡_, refl, sym, ap, ap₂, _∙_, subst}
-use mathlib.Core.Bool.{Bool, true, false, cond, _&&_}
+use mathlib.Core.Bool.{Bool, true, false, cond, _&&_, and-eq-true-iff, and-true, and-false, and-assoc, and-comm}
 use mathlib.Core.Logic.{_↔_}
+use mathlib.Mathlib.Data.List.Basic.{map-reverseAux}
 use mathlib.Core.List.{List, [], _∷_, _++_, map, map-append, reverse, reverse-cons, reverse-reverse}
 use Prim.Native.Nat.{ℕ, zero, suc, _+_, _-_, _*_, _/_, _%_, _^_, _≤_, _<_}
 use native.Mathlib.Nat.{mod-lt, le-of-suc-le-suc, not-suc-le-zero, le-refl, add-zero, add-suc, suc-add, zero-add, div-one, pow-suc, lt-of-lt-of-le}
@@ -27,7 +28,7 @@ use Rattle.pauli_string.specs.Strings.{bit, letterAt}
 use Rattle.pauli_string.specs.Answers.{string, readText}
 use Rattle.pauli_string.specs.Text.{lettersFrom, letters, number, stringOf, text, good, theLetter, letterOf, allLetters, isText, spelled}
 use Rattle.pauli_string.proofs.Digits.{bit-lt, bit-first, bit-high, bit-low}
-use Rattle.pauli_string.proofs.Lists.{getD-reverse, map-reverse, reverse-snoc, drop-set}
+use Rattle.pauli_string.proofs.Lists.{getD-reverse, reverse-snoc, drop-set}
 
 -- ---- arrays of letters
 
@@ -83,13 +84,11 @@ pub letters-of-string : (q : ℕ) (ls : List Pauli) → length ls ≡ q → lett
 unfolding stringOf letterAt
 letters-of-string q ls e = ext-getD I (letters q (stringOf q ls)) ls (length-letters q (stringOf q ls) ∙ sym e) at
   where
-    hx : number xOf ls < 2 ^ q
-    hx = subst (λ (n : ℕ). number xOf ls < 2 ^ n) e (number-lt xOf xOf-lt ls)
-
     at : (i : ℕ) → i < length (letters q (stringOf q ls)) → getD (letters q (stringOf q ls)) i I ≡ getD ls i I
     at i h =
         let x : ℕ = number xOf ls in
         let z : ℕ = number zOf ls in
+        let hx : number xOf ls < 2 ^ q = number-small xOf xOf-lt ls q 0 e in
         let n : length (letters q (stringOf q ls)) ≡ q = length-letters q (stringOf q ls) in
         let hq : i < q = omega arith in
         let hl : i < length ls = omega arith in
@@ -122,7 +121,7 @@ pub string-lt : (q : ℕ) (ls : List Pauli) → length ls ≡ q → stringOf q l
 unfolding stringOf
 string-lt q ls e =
     subst (λ (m : ℕ). number zOf ls * 2 ^ q + number xOf ls < m) (sym (pow-add 2 q q))
-    (digits-lt (subst (λ (n : ℕ). number zOf ls < 2 ^ n) e (number-lt zOf zOf-lt ls)) (subst (λ (n : ℕ). number xOf ls < 2 ^ n) e (number-lt xOf xOf-lt ls)))
+    (digits-lt (number-small zOf zOf-lt ls q 0 e) (number-small xOf xOf-lt ls q 0 e))
 
 -- ---- text
 
@@ -170,17 +169,13 @@ text-is-text q p = text-good q (text q p) (length-text q p) (capitals-good (reve
 
 -- ---- what accepted text is
 
-both-true : (a b : Bool) → (a && b) ≡ true → (a ≡ true) × (b ≡ true)
-both-true true b e = (refl, e)
-both-true false b e = let z : _≡_ {A = ℕ} 0 1 = cc in absurd (omega arith)
-
 text-length : (q : ℕ) (s : List ℕ) → isText q s ≡ true → length s ≡ q
 unfolding isText
-text-length q s e = eqb-true (length s) q (both-true (eqb (length s) q) (allLetters s) e .0)
+text-length q s e = eqb-true (length s) q (and-eq-true-iff (eqb (length s) q) (allLetters s) .0 e .0)
 
 text-all : (q : ℕ) (s : List ℕ) → isText q s ≡ true → allLetters s ≡ true
 unfolding isText
-text-all q s e = both-true (eqb (length s) q) (allLetters s) e .1
+text-all q s e = and-eq-true-iff (eqb (length s) q) (allLetters s) .0 e .1
 
 length-spelled : (q : ℕ) (s : List ℕ) → isText q s ≡ true → length (reverse (map letterOf s)) ≡ q
 length-spelled q s e = length-reverse (map letterOf s) ∙ length-map s letterOf ∙ text-length q s e
@@ -207,7 +202,7 @@ capitals-read : (s : List ℕ) → allLetters s ≡ true → map capital (map le
 unfolding allLetters
 capitals-read [] h = refl
 capitals-read (b ∷ s) h =
-    let t = both-true (good (readLetter b)) (allLetters s) h in
+    let t = and-eq-true-iff (good (readLetter b)) (allLetters s) .0 h in
     ap₂ (λ (a : ℕ) (m : List ℕ). a ∷ m) (capital-read b (t .0)) (capitals-read s (t .1))
 
 pub text-spelled : (q : ℕ) (s : List ℕ) → isText q s ≡ true → text q (spelled q s) ≡ map upper s
@@ -216,30 +211,16 @@ text-spelled q s e =
     ap (λ (ls : List Pauli). map capital (reverse ls)) (letters-spelled q s e)
     ∙ ap (map capital) (reverse-reverse (map letterOf s)) ∙ capitals-read s (text-all q s e)
 
--- ---- both of two tests
-
-and-false : (a : Bool) → (a && false) ≡ false
-and-false true = refl
-and-false false = refl
-
 -- ---- the mirror
 
 all-append : (s t : List ℕ) → allLetters (s ++ t) ≡ (allLetters s && allLetters t)
 unfolding allLetters
 all-append [] t = refl
-all-append (b ∷ s) t = ap (λ (c : Bool). good (readLetter b) && c) (all-append s t) ∙ and-assoc (good (readLetter b)) (allLetters s) (allLetters t)
-  where
-    and-assoc : (a b c : Bool) → (a && (b && c)) ≡ (a && b && c)
-    and-assoc true b c = refl
-    and-assoc false b c = refl
+all-append (b ∷ s) t = ap (λ (c : Bool). good (readLetter b) && c) (all-append s t) ∙ sym (and-assoc (good (readLetter b)) (allLetters s) (allLetters t))
 
 pub all-snoc : (s : List ℕ) (b : ℕ) → allLetters (s ++ (b ∷ [])) ≡ (allLetters s && good (readLetter b))
 unfolding allLetters
 all-snoc s b = all-append s (b ∷ []) ∙ ap (λ (c : Bool). allLetters s && c) (and-true (good (readLetter b)))
-  where
-    and-true : (a : Bool) → (a && true) ≡ a
-    and-true true = refl
-    and-true false = refl
 
 all-reverse : (s : List ℕ) → allLetters (reverse s) ≡ allLetters s
 unfolding allLetters
@@ -247,12 +228,6 @@ all-reverse [] = refl
 all-reverse (b ∷ s) =
     ap allLetters (reverse-cons b s) ∙ all-snoc (reverse s) b
     ∙ ap (λ (c : Bool). c && good (readLetter b)) (all-reverse s) ∙ and-comm (allLetters s) (good (readLetter b))
-  where
-    and-comm : (a b : Bool) → (a && b) ≡ (b && a)
-    and-comm true true = refl
-    and-comm true false = refl
-    and-comm false true = refl
-    and-comm false false = refl
 
 -- text stays text in the mirror
 pub mirror-text : (q : ℕ) (s : List ℕ) → isText q (reverse s) ≡ isText q s
@@ -262,7 +237,7 @@ mirror-text q s = ap₂ (λ (n : ℕ) (b : Bool). eqb n q && b) (length-reverse 
 -- and spells the letters in reverse order
 mirror-plain : (q : ℕ) (s : List ℕ) → spelled q (reverse s) ≡ stringOf q (map letterOf s)
 unfolding spelled
-mirror-plain q s = ap (λ (ls : List Pauli). stringOf q (reverse ls)) (map-reverse letterOf s) ∙ ap (stringOf q) (reverse-reverse (map letterOf s))
+mirror-plain q s = ap (λ (ls : List Pauli). stringOf q (reverse ls)) (map-reverseAux letterOf s []) ∙ ap (stringOf q) (reverse-reverse (map letterOf s))
 
 pub mirror-spells : (q : ℕ) (s : List ℕ) → isText q s ≡ true → spelled q (reverse s) ≡ stringOf q (reverse (letters q (spelled q s)))
 mirror-spells q s e =
@@ -289,26 +264,25 @@ string-inj m n e =
     let r : _≡_ {A = PauliString} (record { 0 = m }) (record { 0 = n }) = cc in
     ap (λ (x : PauliString). x .0) r
 
+-- no string is the refusal
+not-refused : (n : ℕ) → string n ≡ NoString NotLetters → ⊥
+not-refused n e = let z : _≡_ {A = ℕ} 0 1 = cc in omega arith
+
 -- what is read as p is text that spells p
 pub read-as : (q : ℕ) (s : List ℕ) (p : ℕ) → readText q s ≡ string p → (isText q s ≡ true) × (spelled q s ≡ p)
 read-as q s p e = go (isText q s) refl
   where
     go : (b : Bool) → isText q s ≡ b → (isText q s ≡ true) × (spelled q s ≡ p)
     go true t = (t, string-inj (spelled q s) p (sym (read-good q s t) ∙ e))
-    go false t =
-        let no : NoString NotLetters ≡ string p = sym (read-bad q s t) ∙ e in
-        let z : _≡_ {A = ℕ} 0 1 = cc in
-        absurd (omega arith)
+    go false t = absurd (not-refused p (sym e ∙ read-bad q s t))
 
+-- and what is refused is no text
 pub refused-as : (q : ℕ) (s : List ℕ) → readText q s ≡ NoString NotLetters → isText q s ≡ false
 refused-as q s e = go (isText q s) refl
   where
     go : (b : Bool) → isText q s ≡ b → isText q s ≡ false
+    go true t = absurd (not-refused (spelled q s) (sym (read-good q s t) ∙ e))
     go false t = t
-    go true t =
-        let no : string (spelled q s) ≡ NoString NotLetters = sym (read-good q s t) ∙ e in
-        let z : _≡_ {A = ℕ} 0 1 = cc in
-        absurd (omega arith)
 
 -- ---- the loop that reads text: the letters of the first i bytes of s stand in reverse at the end of the array ls
 

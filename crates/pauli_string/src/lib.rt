@@ -38,6 +38,18 @@ pub const Z1: PauliString = PauliString(1 << 12);
 
 pub const Y1: PauliString = PauliString(1 | (1 << 12));
 
+// The string with the letter p on the pivot alone. It says which letter each constant is, so that a wrong one is refused.
+fn on_pivot(p: Pauli) -> PauliString
+    ensures { λ r. ⌜ r .0 ≡ setLetter qubits 0 0 p ⌝ }
+{
+    match p {
+        Pauli::I => ID,
+        Pauli::X => X1,
+        Pauli::Z => Z1,
+        Pauli::Y => Y1,
+    }
+}
+
 // A string, or the refusal.
 pub enum StringAnswer {
     Is(PauliString),

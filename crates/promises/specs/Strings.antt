@@ -70,35 +70,38 @@ string-comes-back p h = Text.string-of-letters qubits p h
 pub printed-reads-back : (p : ℕ) → p < 4 ^ qubits → readText qubits (text qubits p) ≡ string p
 printed-reads-back p h = Text.read-good qubits (text qubits p) (Text.text-is-text qubits p) ∙ ap string (Text.spelled-text qubits p h)
 
--- every accepted text prints back as its capitals
-pub accepted-prints-capitals : (s : List ℕ) (p : ℕ) → readText qubits s ≡ string p → text qubits p ≡ map upper s
-accepted-prints-capitals s p e =
-    let r = Text.read-as qubits s p e in
-    ap (text qubits) (sym (r .1)) ∙ Text.text-spelled qubits s (r .0)
-
 -- qubit 11 stands first
 pub first-letter-is-qubit-11 : (readText qubits (bytesOf "XIIIIIIIIIII") ≡ string 2048) × (readText qubits (bytesOf "IIIIIIIIIIIX") ≡ string 1)
 unfolding readLetter letterOf allLetters isText number stringOf spelled
 first-letter-is-qubit-11 = (refl, refl)
 
--- ---- the mirror: a text read backwards is the string with its letters in reverse order
+-- for every text s that is read as the string p
+module _ (s : List ℕ) (p : ℕ) (read : readText qubits s ≡ string p) where
+  is-text : isText qubits s ≡ true
+  is-text = Text.read-as qubits s p read .0
 
-pub mirrored : (s : List ℕ) (p : ℕ) → readText qubits s ≡ string p
-    → readText qubits (reverse s) ≡ string (stringOf qubits (reverse (letters qubits p)))
-mirrored s p e =
-    let r = Text.read-as qubits s p e in
-    Text.read-good qubits (reverse s) (Text.mirror-text qubits s ∙ r .0)
-    ∙ ap string (Text.mirror-spells qubits s (r .0) ∙ ap (λ (n : ℕ). stringOf qubits (reverse (letters qubits n))) (r .1))
+  spells : spelled qubits s ≡ p
+  spells = Text.read-as qubits s p read .1
 
--- so it is the same string exactly when the letters form a palindrome
-pub mirrored-is-same : (s : List ℕ) (p : ℕ) → readText qubits s ≡ string p
-    → (readText qubits (reverse s) ≡ string p) ↔ (reverse (letters qubits p) ≡ letters qubits p)
-mirrored-is-same s p e =
-    let r = Text.read-as qubits s p e in
-    let h : p < 4 ^ qubits = subst (λ (n : ℕ). n < 4 ^ qubits) (r .1) (Text.spelled-lt qubits s (r .0)) in
-    let both = Text.palindrome qubits p h in
-    (λ f. both .0 (Text.string-inj (stringOf qubits (reverse (letters qubits p))) p (sym (mirrored s p e) ∙ f)), λ f. mirrored s p e ∙ ap string (both .1 f))
+  in-range : p < 4 ^ qubits
+  in-range = subst (λ (n : ℕ). n < 4 ^ qubits) spells (Text.spelled-lt qubits s is-text)
 
--- and a text that is refused is refused backwards too
+  -- it prints back as its capitals
+  pub accepted-prints-capitals : text qubits p ≡ map upper s
+  accepted-prints-capitals = ap (text qubits) (sym spells) ∙ Text.text-spelled qubits s is-text
+
+  -- the mirror: read backwards it is the string with its letters in reverse order
+  pub mirrored : readText qubits (reverse s) ≡ string (stringOf qubits (reverse (letters qubits p)))
+  mirrored =
+      Text.read-good qubits (reverse s) (Text.mirror-text qubits s ∙ is-text)
+      ∙ ap string (Text.mirror-spells qubits s is-text ∙ ap (λ (n : ℕ). stringOf qubits (reverse (letters qubits n))) spells)
+
+  -- so it is the same string exactly when the letters form a palindrome
+  pub mirrored-is-same : (readText qubits (reverse s) ≡ string p) ↔ (reverse (letters qubits p) ≡ letters qubits p)
+  mirrored-is-same =
+      let both = Text.palindrome qubits p in-range in
+      (λ e. both .0 (Text.string-inj (stringOf qubits (reverse (letters qubits p))) p (sym mirrored ∙ e)), λ e. mirrored ∙ ap string (both .1 e))
+
+-- a text that is refused is refused backwards too
 pub mirrored-is-refused : (s : List ℕ) → readText qubits s ≡ Refused NotLetters → readText qubits (reverse s) ≡ Refused NotLetters
 mirrored-is-refused s e = Text.read-bad qubits (reverse s) (Text.mirror-text qubits s ∙ Text.refused-as qubits s e)

@@ -1,9 +1,9 @@
 -- `pauli_string::PauliString::display` meets its contract: the test decides which case of the answer holds. Assumes nothing.
 use mathlib.Core.Path.{ap}
 use borrow.Author.Needs.{needs}
-use borrow.Author.Tests.{lt-ltb, le-ltb}
 use Rattle.bicycle_common.specs.declared.Outcome.the-variants.{Done}
 use Rattle.pauli_string.specs.Answers.{textAnswer}
+use Rattle.pauli_string.proofs.Range.{is-string, no-string}
 use Rattle.pauli_string.proofs.PauliString.display.Statement.{statement}
 use Rattle.pauli_string.proofs.PauliString.display.Tie as tie
 
@@ -11,10 +11,10 @@ display-unchecked-requires : tie.Need-display-unchecked-requires
 display-unchecked-requires c κs = search needs
 
 returns : tie.Need-returns
-returns c = simp (lt-ltb _ _ (c .before .if1 .taken)) (ap (textAnswer Done) (c .display-unchecked .ensures))
+returns c = simp (is-string 12 _ (c .before .if1 .taken)) (ap (textAnswer Done) (c .display-unchecked .ensures))
 
 returns-2 : tie.Need-returns-2
-returns-2 c = simp (le-ltb _ _ (c .if1 .left))
+returns-2 c = simp (no-string 12 _ (c .if1 .left))
 
 pub display-spec : {M : Type 1} → statement M
 display-spec = tie.close (tie.spec display-unchecked-requires returns returns-2)

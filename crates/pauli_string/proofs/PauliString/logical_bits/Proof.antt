@@ -1,8 +1,8 @@
 -- `pauli_string::PauliString::logical_bits` meets its contract: the tests decide which case of the answer holds. Assumes nothing.
 use mathlib.Core.Path.{ap}
 use borrow.Author.Needs.{needs}
-use borrow.Author.Tests.{lt-ltb, le-ltb}
 use Rattle.pauli_string.specs.Answers.{string}
+use Rattle.pauli_string.proofs.Range.{is-string, no-string}
 use Rattle.pauli_string.proofs.PauliString.logical_bits.Statement.{statement}
 use Rattle.pauli_string.proofs.PauliString.logical_bits.Tie as tie
 
@@ -10,10 +10,10 @@ logical-bits-unchecked-requires : tie.Need-logical-bits-unchecked-requires
 logical-bits-unchecked-requires c κs = search needs
 
 returns : tie.Need-returns
-returns c = simp (lt-ltb _ _ (c .before .if1 .taken)) (ap string (c .logical-bits-unchecked .ensures))
+returns c = simp (is-string 12 _ (c .before .if1 .taken)) (ap string (c .logical-bits-unchecked .ensures))
 
 returns-2 : tie.Need-returns-2
-returns-2 c = simp (le-ltb _ _ (c .if1 .left))
+returns-2 c = simp (no-string 12 _ (c .if1 .left))
 
 pub logical-bits-spec : {M : Type 1} → statement M
 logical-bits-spec = tie.close (tie.spec logical-bits-unchecked-requires returns returns-2)

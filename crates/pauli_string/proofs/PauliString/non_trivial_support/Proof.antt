@@ -1,8 +1,8 @@
 -- `pauli_string::PauliString::non_trivial_support` meets its contract: the tests decide which case of the answer holds. Assumes nothing.
 use mathlib.Core.Path.{sym, ap, _∙_}
 use borrow.Author.Needs.{needs}
-use borrow.Author.Tests.{lt-ltb, le-ltb}
 use Rattle.pauli_string.specs.declared.BoolAnswer.the-variants.{Is}
+use Rattle.pauli_string.proofs.Range.{is-string, no-string}
 use Rattle.pauli_string.proofs.PauliString.non_trivial_support.Statement.{statement}
 use Rattle.pauli_string.proofs.PauliString.non_trivial_support.Tie as tie
 
@@ -14,14 +14,14 @@ has-logical-support-unchecked-requires c κs = search needs
 
 returns : tie.Need-returns
 returns c =
-    simp (lt-ltb _ _ (c .before .before .before .if1 .taken), sym (c .before .before .has-pivot-support-unchecked .ensures) ∙ c .before .if2 .taken)
+    simp (is-string 12 _ (c .before .before .before .if1 .taken), sym (c .before .before .has-pivot-support-unchecked .ensures) ∙ c .before .if2 .taken)
     (ap Is (c .has-logical-support-unchecked .ensures))
 
 returns-2 : tie.Need-returns-2
-returns-2 c = simp (lt-ltb _ _ (c .before .before .if1 .taken), sym (c .before .has-pivot-support-unchecked .ensures) ∙ c .if2 .left)
+returns-2 c = simp (is-string 12 _ (c .before .before .if1 .taken), sym (c .before .has-pivot-support-unchecked .ensures) ∙ c .if2 .left)
 
 returns-3 : tie.Need-returns-3
-returns-3 c = simp (le-ltb _ _ (c .if1 .left))
+returns-3 c = simp (no-string 12 _ (c .if1 .left))
 
 pub non-trivial-support-spec : {M : Type 1} → statement M
 non-trivial-support-spec =
