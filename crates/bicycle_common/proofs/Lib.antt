@@ -1,5 +1,6 @@
 -- Laws that belong to no one function.
 pub mod Tests
+pub mod Ranges
 pub mod Letters
 pub mod Automorphisms
 pub mod Generators

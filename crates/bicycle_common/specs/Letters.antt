@@ -17,6 +17,10 @@ use Rattle.bicycle_common.specs.Refusals.{Told, answered, refused}
 
 -- ---- the letters, which run I, X, Z, Y
 
+-- the digit for a yes or a no
+abbrev pub flag : Bool → ℕ
+flag b = cond b 1 0
+
 -- the X digit and the Z digit of a letter: Y has both
 abbrev pub xOf : Pauli → ℕ
 xOf I = 0

@@ -8,7 +8,7 @@
 // (see NOTICE).
 ghost use mathlib.Core.Path.{_≡_};
 ghost use Rattle.bicycle_common.specs.Refusals.{numberOf, neededOf};
-ghost use Rattle.bicycle_common.specs.Letters.{isI, anticommutingLetters, capital, readLetter, basesOf};
+ghost use Rattle.bicycle_common.specs.Letters.{flag, xOf, zOf, isI, anticommutingLetters, capital, readLetter, basesOf};
 ghost use Rattle.bicycle_common.specs.Automorphisms.{component, ofPair, inverse, product, isIdentity, generators};
 ghost use Rattle.bicycle_common.specs.Instructions.{instructionShown};
 
@@ -125,6 +125,30 @@ impl Pauli {
             Pauli::X => Anticommuting::Letters(Pauli::Z, Pauli::Y),
             Pauli::Z => Anticommuting::Letters(Pauli::X, Pauli::Y),
             Pauli::Y => Anticommuting::Letters(Pauli::X, Pauli::Z),
+        }
+    }
+
+    // Whether the letter has the X digit: X and Y have it.
+    pub fn has_x(self) -> bool
+        ensures { λ r. ⌜ flag r ≡ xOf self ⌝ }
+    {
+        match self {
+            Pauli::I => false,
+            Pauli::X => true,
+            Pauli::Z => false,
+            Pauli::Y => true,
+        }
+    }
+
+    // Whether the letter has the Z digit: Z and Y have it.
+    pub fn has_z(self) -> bool
+        ensures { λ r. ⌜ flag r ≡ zOf self ⌝ }
+    {
+        match self {
+            Pauli::I => false,
+            Pauli::X => false,
+            Pauli::Z => true,
+            Pauli::Y => true,
         }
     }
 

@@ -11,11 +11,12 @@ use lib.Pow.{pow-pos, split, shr-lt, shl-exact}
 use lib.Bits.{bitAnd, bitOr, bitXor, differ, and-block, and-lt, or-shifted, xor-block, xor-self, xor-zero-r, xor-step, xor-shr, xor-lt}
 use lib.Count.{ones, ones-cat}
 use Rattle.bicycle_common.specs.declared.Pauli.{Pauli}
-use Rattle.bicycle_common.specs.Letters.{letter, rank, same, clash}
+use Rattle.bicycle_common.specs.Ranges.{sum}
+use Rattle.bicycle_common.specs.Letters.{flag, letter, rank, same, clash}
 use Rattle.bicycle_common.proofs.Tests.{bits, at-bit, letters, at-letter}
 use Rattle.bicycle_common.proofs.Letters.{beq→eq, clash-sym, clash-self}
-use Rattle.pauli_string.specs.Strings.{flag, bit, letterAt, clashes, commute, conj}
-use Rattle.pauli_string.proofs.Digits.{two-pos, low-digit, differ-lt, bit-lt, bit-zero, and-bit, xor-bit, bit-high, bit-low, sumTo, ones-of}
+use Rattle.pauli_string.specs.Strings.{bit, letterAt, clashes, commute, conj}
+use Rattle.pauli_string.proofs.Digits.{two-pos, low-digit, differ-lt, bit-lt, bit-zero, and-bit, xor-bit, bit-high, bit-low, ones-of}
 
 -- 1 where two letters clash
 abbrev anti : Pauli → Pauli → ℕ
@@ -55,11 +56,11 @@ module _ (q p r : ℕ) where
       (and-bit (p / 2 ^ q) (r % 2 ^ q) i ∙ ap₂ min (bit-high p q i) (bit-low r q i h))
       ∙ cross (bit p i) (bit p (q + i)) (bit r i) (bit r (q + i)) (bit-lt p i) (bit-lt p (q + i)) (bit-lt r i) (bit-lt r (q + i))
 
-  first-qubits : (k : ℕ) → k ≤ q → (sumTo (bit hiAnd) k + sumTo (bit loAnd) k) % 2 ≡ clashes q p r k % 2
-  unfolding sumTo clashes
+  first-qubits : (k : ℕ) → k ≤ q → (sum k (bit hiAnd) + sum k (bit loAnd)) % 2 ≡ clashes q p r k % 2
+  unfolding sum clashes
   first-qubits zero h = refl
   first-qubits (suc k) h =
-      sum-parity (sumTo (bit hiAnd) k) (sumTo (bit loAnd) k) (bit hiAnd k) (bit loAnd k) (clashes q p r k) (anti (letterAt q p k) (letterAt q r k))
+      sum-parity (sum k (bit hiAnd)) (sum k (bit loAnd)) (bit hiAnd k) (bit loAnd k) (clashes q p r k) (anti (letterAt q p k) (letterAt q r k))
       (first-qubits k (le-of-lt h)) (qubit k h)
 
   pub count-law : p < 2 ^ (q + q) → r < 2 ^ (q + q)

@@ -8,6 +8,7 @@ use lib.Pow.{pow-pos, shr-lt, shr-shr, mod-pow-add, mod-mod-pow, field}
 use native.Mathlib.Numerals.{add-one, one-add}
 use lib.Bits.{bitAnd, bitXor, differ, and-step, xor-step, and-shr, xor-shr}
 use lib.Count.{ones, ones-cat}
+use Rattle.bicycle_common.specs.Ranges.{sum}
 use Rattle.pauli_string.specs.Strings.{bit}
 
 pub two-pos : 0 < 2
@@ -88,9 +89,6 @@ pub bit-even : (n i : ℕ) → bit (n / 2 * 2) (1 + i) ≡ bit n (1 + i)
 bit-even n i = bit-double (n / 2) i ∙ bit-high n 1 i
 
 -- ---- the count of the set digits
-unfoldable pub sumTo : (ℕ → ℕ) → ℕ → ℕ
-sumTo f zero = 0
-sumTo f (suc k) = sumTo f k + f k
 
 ones-bit : (b : ℕ) → b < 2 → ones b ≡ b
 unfolding ones
@@ -98,14 +96,14 @@ ones-bit zero h = refl
 ones-bit (suc zero) h = refl
 ones-bit (suc (suc b)) h = absurd (omega arith)
 
-pub ones-low : (n k : ℕ) → ones (n % 2 ^ k) ≡ sumTo (bit n) k
-unfolding sumTo bit ones
+pub ones-low : (n k : ℕ) → ones (n % 2 ^ k) ≡ sum k (bit n)
+unfolding sum bit ones
 ones-low n zero = ap ones (lt-one (mod-lt n (pow-pos zero)))
 ones-low n (suc k) =
     ap ones (ap (λ (m : ℕ). n % 2 ^ m) (sym (one-add k)) ∙ mod-pow-add n 1 k)
     ∙ ones-cat k (n / 2 ^ k % 2 ^ 1) (n % 2 ^ k) (mod-lt n (pow-pos k))
     ∙ ap₂ (λ (a b : ℕ). a + b) (ones-bit (n / 2 ^ k % 2) (mod-lt (n / 2 ^ k) two-pos)) (ones-low n k)
-    ∙ add-comm (n / 2 ^ k % 2) (sumTo (bit n) k)
+    ∙ add-comm (n / 2 ^ k % 2) (sum k (bit n))
 
-pub ones-of : (n k : ℕ) → n < 2 ^ k → ones n ≡ sumTo (bit n) k
+pub ones-of : (n k : ℕ) → n < 2 ^ k → ones n ≡ sum k (bit n)
 ones-of n k h = ap ones (sym (mod-eq-of-lt h)) ∙ ones-low n k

@@ -11,10 +11,10 @@ use lib.Pow.{pow-pos, pow-add, pow-mono, split, shr-lt, shr-mod, shl-exact, ones
 use lib.Bits.{bitAnd, bitOr, and-block, and-mask, and-high, or-block, or-step, or-zero-r, or-shifted}
 use borrow.Author.Tests.{ltb-true, ltb-false}
 use Rattle.bicycle_common.specs.declared.Pauli.{Pauli}
-use Rattle.bicycle_common.specs.Letters.{xOf, zOf, letter}
+use Rattle.bicycle_common.specs.Letters.{flag, xOf, zOf, letter}
 use Rattle.bicycle_common.proofs.Tests.{at-bit}
 use Rattle.bicycle_common.proofs.Letters.{xOf-lt, zOf-lt, letter-digits}
-use Rattle.pauli_string.specs.Strings.{bit, flag, setBit, letterAt, setLetter}
+use Rattle.pauli_string.specs.Strings.{bit, setBit, letterAt, setLetter}
 use Rattle.pauli_string.proofs.Digits.{halved, bit-lt, bit-high, bit-low}
 
 -- the digit d at the place of weight P becomes b

@@ -20,36 +20,27 @@ use Rattle.bicycle_common.specs.declared.LetterAnswer.{LetterAnswer}
 use Rattle.bicycle_common.specs.declared.LetterAnswer.the-variants.{Is, Refused}
 use Rattle.bicycle_common.specs.Bytes.{upper}
 use Rattle.bicycle_common.specs.Letters.{xOf, zOf, letter, capital, readLetter}
+use Rattle.bicycle_common.specs.Ranges.{listFrom}
+use Rattle.bicycle_common.proofs.Ranges.{length-from, listed-at}
 use Rattle.bicycle_common.proofs.Letters.{xOf-lt, zOf-lt, letter-digits, digit-x, digit-z, read-capital, read-upper}
 use Rattle.bicycle_common.specs.declared.Refusal.the-variants.{NotLetters}
 use Rattle.pauli_string.specs.declared.PauliString.{PauliString}
 use Rattle.pauli_string.specs.declared.StringAnswer.the-variants.{Refused as NoString}
 use Rattle.pauli_string.specs.Strings.{bit, letterAt}
 use Rattle.pauli_string.specs.Answers.{string, readText}
-use Rattle.pauli_string.specs.Text.{lettersFrom, letters, number, stringOf, text, good, theLetter, letterOf, allLetters, isText, spelled}
+use Rattle.pauli_string.specs.Text.{letters, number, stringOf, text, good, theLetter, letterOf, allLetters, isText, spelled}
 use Rattle.pauli_string.proofs.Digits.{bit-lt, bit-first, bit-high, bit-low}
 use Rattle.pauli_string.proofs.Lists.{getD-reverse, reverse-snoc, drop-set}
 
 -- ---- arrays of letters
 
-length-from : (q p i k : ℕ) → length (lettersFrom q p i k) ≡ k
-unfolding lettersFrom
-length-from q p i zero = refl
-length-from q p i (suc k) = ap suc (length-from q p (suc i) k)
-
-from-at : (q p i k j : ℕ) → j < k → getD (lettersFrom q p i k) j I ≡ letterAt q p (i + j)
-unfolding lettersFrom
-from-at q p i zero j h = absurd (not-suc-le-zero h)
-from-at q p i (suc k) zero h = ap (letterAt q p) (sym (add-zero i))
-from-at q p i (suc k) (suc j) h = from-at q p (suc i) k j (le-of-suc-le-suc h) ∙ ap (letterAt q p) (suc-add i j ∙ sym (add-suc i j))
-
 pub length-letters : (q p : ℕ) → length (letters q p) ≡ q
 unfolding letters
-length-letters q p = length-from q p 0 q
+length-letters q p = length-from (letterAt q p) 0 q
 
 pub letters-at : (q p i : ℕ) → i < q → getD (letters q p) i I ≡ letterAt q p i
 unfolding letters
-letters-at q p i h = from-at q p 0 q i h ∙ ap (letterAt q p) (zero-add i)
+letters-at q p i h = listed-at (letterAt q p) I q i h
 
 -- ---- the number of a list of digits
 
@@ -99,8 +90,8 @@ letters-of-string q ls e = ext-getD I (letters q (stringOf q ls)) ls (length-let
         ∙ letter-digits (getD ls i I)
 
 -- the digits that f reads off the letters of p are those of n
-number-from : (f : Pauli → ℕ) (q p n : ℕ) → ((i : ℕ) → f (letterAt q p i) ≡ bit n i) → (i k : ℕ) → number f (lettersFrom q p i k) ≡ n / 2 ^ i % 2 ^ k
-unfolding number lettersFrom bit
+number-from : (f : Pauli → ℕ) (q p n : ℕ) → ((i : ℕ) → f (letterAt q p i) ≡ bit n i) → (i k : ℕ) → number f (listFrom (letterAt q p) i k) ≡ n / 2 ^ i % 2 ^ k
+unfolding number listFrom bit
 number-from f q p n h i zero = sym (lt-one (mod-lt (n / 2 ^ i) (pow-pos zero)))
 number-from f q p n h i (suc k) =
     ap₂ (λ (a b : ℕ). a * 2 + b)

@@ -14,7 +14,7 @@ use Rattle.bicycle_common.specs.declared.Outcome.the-variants.{Done, Refused as
 use Rattle.bicycle_common.specs.declared.LetterAnswer.{LetterAnswer}
 use Rattle.bicycle_common.specs.declared.LetterAnswer.the-variants.{Is as LetterIs, Refused as NoLetter}
 use Rattle.bicycle_common.specs.Refusals.{Told, answered, refused, toldOutcome}
-use Rattle.bicycle_common.specs.Letters.{rank}
+use Rattle.bicycle_common.specs.Letters.{flag, rank}
 use Rattle.pauli_string.specs.declared.Letter.{Letter}
 use Rattle.pauli_string.specs.declared.StringAnswer.{StringAnswer}
 use Rattle.pauli_string.specs.declared.StringAnswer.the-variants.{Is as StringIs, Refused as NoString}
@@ -22,7 +22,7 @@ use Rattle.pauli_string.specs.declared.BoolAnswer.{BoolAnswer}
 use Rattle.pauli_string.specs.declared.BoolAnswer.the-variants.{Is as BoolIs, Refused as NoBool}
 use Rattle.pauli_string.specs.declared.LettersAnswer.{LettersAnswer}
 use Rattle.pauli_string.specs.declared.TextAnswer.{TextAnswer}
-use Rattle.pauli_string.specs.Strings.{isString, flag, commute, conj, pivotBits, blank, hasPivot, hasLogical, logicalBits, rotationOf, letterAt, setLetter}
+use Rattle.pauli_string.specs.Strings.{isString, commute, conj, pivotBits, blank, hasPivot, hasLogical, logicalBits, rotationOf, letterAt, setLetter}
 use Rattle.pauli_string.specs.Text.{letters, text, isText, spelled}
 
 -- ---- the answers, and what a caller is told by each

@@ -4,7 +4,7 @@ use Prim.Native.Nat.{ℕ, zero, suc, _+_, _-_, _*_, _/_, _%_, _^_}
 use lib.Dec.{eqb, ltb}
 use lib.Bits.{bitXor}
 use Rattle.bicycle_common.specs.declared.Pauli.{Pauli}
-use Rattle.bicycle_common.specs.Letters.{xOf, zOf, letter, isI, clash}
+use Rattle.bicycle_common.specs.Letters.{flag, xOf, zOf, letter, isI, clash}
 
 -- the strings of the bicycle architecture have twelve letters
 abbrev pub qubits : ℕ
@@ -13,9 +13,6 @@ qubits = 12
 -- p is a string of q letters
 abbrev pub isString : ℕ → ℕ → Bool
 isString q p = ltb p (4 ^ q)
-
-abbrev pub flag : Bool → ℕ
-flag b = cond b 1 0
 
 -- binary digit i of n
 unfoldable pub bit : ℕ → ℕ → ℕ

@@ -9,19 +9,15 @@ use Rattle.bicycle_common.specs.declared.Pauli.{Pauli}
 use Rattle.bicycle_common.specs.declared.Pauli.the-variants.{I}
 use Rattle.bicycle_common.specs.declared.LetterAnswer.{LetterAnswer}
 use Rattle.bicycle_common.specs.declared.LetterAnswer.the-variants.{Is, Refused}
+use Rattle.bicycle_common.specs.Ranges.{listed}
 use Rattle.bicycle_common.specs.Letters.{xOf, zOf, capital, readLetter}
 use Rattle.pauli_string.specs.Strings.{letterAt}
 
 -- ---- arrays of letters
 
--- k letters of p from qubit i on
-unfoldable pub lettersFrom : ℕ → ℕ → ℕ → ℕ → List Pauli
-lettersFrom q p i zero = []
-lettersFrom q p i (suc k) = letterAt q p i ∷ lettersFrom q p (suc i) k
-
 -- the letters of p, qubit 0 first
 unfoldable pub letters : ℕ → ℕ → List Pauli
-letters q p = lettersFrom q p 0 q
+letters q p = listed (letterAt q p) q
 
 -- the number whose binary digits f gives for each letter, the first letter's lowest
 unfoldable pub number : (Pauli → ℕ) → List Pauli → ℕ

@@ -16,8 +16,8 @@ ghost use mathlib.Core.Path.{_≡_};
 ghost use mathlib.Core.List.{map};
 ghost use Prim.Native.Nat.{_+_, _*_, _<_, _^_};
 ghost use lib.Dec.{eqb};
-ghost use Rattle.bicycle_common.specs.Letters.{xOf, zOf};
-ghost use Rattle.pauli_string.specs.Strings.{qubits, flag, bit, letterAt, commute, conj, pivotBits, blank, hasPivot, hasLogical, rotate, logicalBits, setBit, setLetter};
+ghost use Rattle.bicycle_common.specs.Letters.{flag};
+ghost use Rattle.pauli_string.specs.Strings.{qubits, bit, letterAt, commute, conj, pivotBits, blank, hasPivot, hasLogical, rotate, logicalBits, setBit, setLetter};
 ghost use Rattle.pauli_string.specs.Text.{letters, stringOf, text};
 ghost use Rattle.pauli_string.specs.Answers.{mul, commutesWith, conjugateWith, pivotPart, zeroPivot, logicalPart, pivotSupport, logicalSupport, nonTrivialSupport, rotation, getPauli, setPauli, toLetters, printed, readText};
 
@@ -95,28 +95,6 @@ fn set_bit(n: u32, index: usize, value: bool) -> u32
     }
 }
 
-fn has_x(p: Pauli) -> bool
-    ensures { λ r. ⌜ flag r ≡ xOf p ⌝ }
-{
-    match p {
-        Pauli::I => false,
-        Pauli::X => true,
-        Pauli::Z => false,
-        Pauli::Y => true,
-    }
-}
-
-fn has_z(p: Pauli) -> bool
-    ensures { λ r. ⌜ flag r ≡ zOf p ⌝ }
-{
-    match p {
-        Pauli::I => false,
-        Pauli::X => false,
-        Pauli::Z => true,
-        Pauli::Y => true,
-    }
-}
-
 // One digit more at the low end.
 fn push(n: u32, b: bool) -> u32
     requires { ⌜ n < 2 ^ 12 ⌝ }
@@ -175,8 +153,8 @@ impl PauliString {
         requires { ⌜ i < qubits ⌝ }
         ensures { λ r. ⌜ r .0 ≡ setLetter qubits (self .0) i p ⌝ }
     {
-        let x = set_bit(self.0, i, has_x(p));
-        PauliString(set_bit(x, i + 12, has_z(p)))
+        let x = set_bit(self.0, i, p.has_x());
+        PauliString(set_bit(x, i + 12, p.has_z()))
     }
 
     // The string with the letter p on qubit i.
@@ -366,8 +344,8 @@ impl PauliString {
         while 0 < i {
             i -= 1;
             let pauli = value[i];
-            x = push(x, has_x(pauli));
-            z = push(z, has_z(pauli));
+            x = push(x, pauli.has_x());
+            z = push(z, pauli.has_z());
         }
         PauliString(z << 12 | x)
     }

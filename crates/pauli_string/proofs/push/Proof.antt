@@ -3,7 +3,7 @@ use mathlib.Core.Bool.{Bool}
 use mathlib.Core.Path.{ap, sym, _∙_}
 use Prim.Native.Nat.{_+_, _*_}
 use native.Mathlib.Omega.{arith}
-use Rattle.pauli_string.specs.Strings.{flag}
+use Rattle.bicycle_common.specs.Letters.{flag}
 use Rattle.pauli_string.proofs.Places.{push-one, push-zero}
 use Rattle.pauli_string.proofs.push.Statement.{statement}
 use Rattle.pauli_string.proofs.push.Tie as tie

@@ -3,7 +3,8 @@ use mathlib.Core.Bool.{Bool}
 use mathlib.Core.Path.{ap, sym, _∙_}
 use native.Mathlib.Omega.{arith}
 use borrow.Author.Needs.{needs}
-use Rattle.pauli_string.specs.Strings.{setBit, flag}
+use Rattle.pauli_string.specs.Strings.{setBit}
+use Rattle.bicycle_common.specs.Letters.{flag}
 use Rattle.pauli_string.proofs.Places.{set-one, set-zero}
 use Rattle.pauli_string.proofs.set_bit.Statement.{statement}
 use Rattle.pauli_string.proofs.set_bit.Tie as tie

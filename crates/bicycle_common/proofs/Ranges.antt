@@ -1,0 +1,105 @@
+-- Laws of sums, tests and lists over the numbers below a bound. Assumes nothing.
+use mathlib.Core.Path.{_≡_, refl, sym, ap, ap₂, subst, _∙_}
+use mathlib.Core.Logic.{⊎-elim}
+use mathlib.Core.Bool.{Bool, true, false, _&&_}
+use mathlib.Core.List.{List, [], _∷_}
+use Prim.Native.Nat.{ℕ, zero, suc, _+_, _*_, _<_, _≤_, suc-le-suc}
+use native.Mathlib.Nat.{not-suc-le-zero, le-of-suc-le-suc, eq-or-lt-of-le, zero-lt-suc, add-zero, add-suc, suc-add, zero-add}
+use native.Mathlib.Numerals.{add-one}
+use native.Mathlib.Omega.{arith}
+use lib.Dec.{T}
+use lib.ListN.{length, getD, set}
+use lib.Seq.{getD-set-same, getD-set-other}
+use borrow.Author.Count.{below-more}
+use Rattle.bicycle_common.specs.Ranges.{sum, allBelow, listFrom, listed}
+use Rattle.bicycle_common.proofs.Tests.{left, right}
+
+-- ---- sums
+
+pub sum-next : (n : ℕ) (f : ℕ → ℕ) → sum (n + 1) f ≡ sum n f + f n
+unfolding sum
+sum-next n f = rw add-one
+
+pub sum-same : (n : ℕ) (f g : ℕ → ℕ) → ((j : ℕ) → j < n → f j ≡ g j) → sum n f ≡ sum n g
+unfolding sum
+sum-same zero f g h = refl
+sum-same (suc n) f g h = ap₂ (λ (a b : ℕ). a + b) (sum-same n f g (λ j l. h j (omega arith))) (h n (omega arith))
+
+-- n numbers of at most 1 sum to at most n
+pub sum-le : (n : ℕ) (f : ℕ → ℕ) → ((j : ℕ) → j < n → f j ≤ 1) → sum n f ≤ n
+unfolding sum
+sum-le zero f h = omega arith
+sum-le (suc n) f h = omega (arith, sum-le n f (λ j l. h j (omega arith)), h n (omega arith))
+
+-- ---- tests
+
+pub all-below : (n : ℕ) (f : ℕ → Bool) → T (allBelow n f) → (j : ℕ) → j < n → T (f j)
+unfolding allBelow
+all-below zero f t j h = absurd (not-suc-le-zero h)
+all-below (suc n) f t j h =
+    ⊎-elim
+    (λ (e : j ≡ n). subst (λ (k : ℕ). T (f k)) (sym e) (left (f n) (allBelow n f) t))
+    (λ (l : j < n). all-below n f (right (f n) (allBelow n f) t) j l)
+    (eq-or-lt-of-le (le-of-suc-le-suc h))
+
+pub all-true : (n : ℕ) (f : ℕ → Bool) → ((j : ℕ) → j < n → f j ≡ true) → allBelow n f ≡ true
+unfolding allBelow
+all-true zero f h = refl
+all-true (suc n) f h = rw (h n (omega arith)) (all-true n f (λ j l. h j (omega arith)))
+
+and-false : (a b : Bool) → b ≡ false → (a && b) ≡ false
+and-false true b e = e
+and-false false b e = refl
+
+pub all-false : (n : ℕ) (f : ℕ → Bool) (j : ℕ) → j < n → f j ≡ false → allBelow n f ≡ false
+unfolding allBelow
+all-false zero f j h e = absurd (not-suc-le-zero h)
+all-false (suc n) f j h e =
+    ⊎-elim
+    (λ (q : j ≡ n). rw (← q, e))
+    (λ (q : j < n). and-false (f n) (allBelow n f) (all-false n f j q e))
+    (eq-or-lt-of-le (le-of-suc-le-suc h))
+
+pub all-same : (n : ℕ) (f g : ℕ → Bool) → ((j : ℕ) → j < n → f j ≡ g j) → allBelow n f ≡ allBelow n g
+unfolding allBelow
+all-same zero f g h = refl
+all-same (suc n) f g h = ap₂ _&&_ (h n (omega arith)) (all-same n f g (λ j l. h j (omega arith)))
+
+-- ---- lists
+
+module _ {A : Type 0} where
+  pub length-from : (f : ℕ → A) (i k : ℕ) → length (listFrom f i k) ≡ k
+  unfolding listFrom
+  length-from f i zero = refl
+  length-from f i (suc k) = ap suc (length-from f (suc i) k)
+
+  pub from-at : (f : ℕ → A) (d : A) (i k j : ℕ) → j < k → getD (listFrom f i k) j d ≡ f (i + j)
+  unfolding listFrom
+  from-at f d i zero j h = absurd (not-suc-le-zero h)
+  from-at f d i (suc k) zero h = ap f (sym (add-zero i))
+  from-at f d i (suc k) (suc j) h = from-at f d (suc i) k j (le-of-suc-le-suc h) ∙ ap f (suc-add i j ∙ sym (add-suc i j))
+
+  pub listed-at : (f : ℕ → A) (d : A) (n j : ℕ) → j < n → getD (listed f n) j d ≡ f j
+  listed-at f d n j h = from-at f d 0 n j h ∙ ap f (zero-add j)
+
+  from-all : (f : ℕ → A) (d : A) (l : List A) (i k : ℕ) → length l ≡ k → ((j : ℕ) → j < k → getD l j d ≡ f (i + j)) → l ≡ listFrom f i k
+  unfolding listFrom
+  from-all f d [] i zero e h = refl
+  from-all f d [] i (suc k) e h = absurd (omega arith)
+  from-all f d (x ∷ l) i zero e h = absurd (omega arith)
+  from-all f d (x ∷ l) i (suc k) e h =
+      ap₂ (λ (a : A) (m : List A). a ∷ m)
+      (h 0 (zero-lt-suc k) ∙ ap f (add-zero i))
+      (from-all f d l (suc i) k (omega arith) (λ j q. h (suc j) (suc-le-suc q) ∙ ap f (add-suc i j ∙ sym (suc-add i j))))
+
+  -- a list of n elements is known by each of them
+  pub listed-all : (f : ℕ → A) (d : A) (l : List A) (n : ℕ) → length l ≡ n → ((j : ℕ) → j < n → getD l j d ≡ f j) → l ≡ listed f n
+  listed-all f d l n e h = from-all f d l 0 n e (λ j q. h j q ∙ ap f (sym (zero-add j)))
+
+  -- a list that is filled from the front: what holds at each place below k holds below k + 1 after the store at k
+  pub stored-more : (P : ℕ → A → Type 0) (l : List A) (d : A) (k : ℕ) (v : A) → k < length l
+      → ((t : ℕ) → t < k → P t (getD l t d)) → P k v → (t : ℕ) → t < k + 1 → P t (getD (set l k v) t d)
+  stored-more P l d k v hk h p =
+      below-more (λ (t : ℕ). P t (getD (set l k v) t d)) k
+      (λ t lt. rw (getD-set-other l k t v d (λ e. omega arith)) (h t lt))
+      (rw (getD-set-same l k v d hk) p)

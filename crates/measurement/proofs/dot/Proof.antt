@@ -1,0 +1,69 @@
+use borrow.Author.Needs.{needs}
+use mathlib.Core.Path.{_≡_, refl, sym, ap, ap₂, _∙_}
+use Prim.Native.Nat.{ℕ, _+_, _-_, _*_, _/_, _%_, _^_, _<_, _≤_}
+use native.Mathlib.Omega.{arith}
+use Rattle.bicycle_common.specs.Ranges.{sum}
+use Rattle.bicycle_common.proofs.Ranges.{sum-next}
+use Rattle.measurement.specs.Matrices.{ofRows, mul}
+use Rattle.measurement.proofs.Matrices.{product-le}
+use Rattle.measurement.proofs.dot.Statement.{statement}
+use Rattle.measurement.proofs.dot.Tie as tie
+
+abbrev Inv-loop : tie.InvT-loop
+Inv-loop a b i k acc₀ j₀ acc j = (j ≤ 6) × (acc ≤ j) × (acc ≡ sum j (λ (t : ℕ). ofRows a i t * ofRows b t k))
+
+abbrev μ-loop : tie.MeasureT-loop
+μ-loop a b i k acc₀ j₀ acc j = 6 - j
+
+-- both numbers are 0 or 1
+small : (c : tie.After-at2 Inv-loop μ-loop) → c .before .at .result * c .at2 .result ≤ 1
+small c =
+    let s = c .before .before .before .before in
+    let j = c .before .before .before .loop .j in
+    rw (c .before .at .ensures, c .at2 .ensures)
+    (product-le _ _ (s .pre .1 .0 (s .args .i) j (omega arith) (omega arith)) (s .pre .1 .1 j (s .args .k) (omega arith) (omega arith)))
+
+loop-holds : tie.Need-loop-holds Inv-loop μ-loop
+unfolding sum
+loop-holds c = (search needs, search needs, refl)
+
+at-requires : tie.Need-at-requires Inv-loop μ-loop
+at-requires c κs = search needs
+
+at-requires-2 : tie.Need-at-requires-2 Inv-loop μ-loop
+at-requires-2 c κs = search needs
+
+mul-acc : tie.Need-mul-acc Inv-loop μ-loop
+mul-acc c = omega (arith, small c)
+
+add-acc : tie.Need-add-acc Inv-loop μ-loop
+add-acc c = omega (arith, small c)
+
+add-j : tie.Need-add-j Inv-loop μ-loop
+add-j c = search needs
+
+loop-less : tie.Need-loop-less Inv-loop μ-loop
+loop-less c = search needs
+
+loop-again : tie.Need-loop-again Inv-loop μ-loop
+loop-again c = (search needs, omega (arith, small c), rw sum-next (cc))
+
+returns : tie.Need-returns Inv-loop μ-loop
+unfolding mul
+returns c = let e : c .before .loop .j ≡ 6 = omega arith in cc
+
+pub dot-spec : {M : Type 1} → statement M
+dot-spec =
+    tie.close
+    (tie.spec
+    Inv-loop
+    μ-loop
+    loop-holds
+    at-requires
+    at-requires-2
+    mul-acc
+    add-acc
+    add-j
+    loop-less
+    loop-again
+    returns)

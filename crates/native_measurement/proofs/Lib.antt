@@ -1,0 +1,2 @@
+-- Laws of the numbers of native measurements.
+pub mod Natives

@@ -1,0 +1,3 @@
+-- What the contracts of `native_measurement` cite.
+pub mod Natives
+pub mod Answers
