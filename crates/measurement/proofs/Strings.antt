@@ -198,6 +198,9 @@ bytes-length s m e = eqb-true (length m) (s * s) (and-eq-true-iff (eqb (length m
 pub bytes-binary : (s : ℕ) (m : List ℕ) → isBytes s m ≡ true → isBinary s (ofBytes s m) ≡ true
 bytes-binary s m e = and-eq-true-iff (eqb (length m) (s * s)) (isBinary s (ofBytes s m)) .0 e .1
 
+pub bytes-good : (s : ℕ) (m : List ℕ) → isBytes s m ≡ true → (length m ≡ s * s) × Binary s (ofBytes s m)
+bytes-good s m e = (bytes-length s m e, is-binary s (ofBytes s m) (bytes-binary s m e))
+
 -- good bytes are answered as the matrices that they hold
 pub measures-bytes : (s : ℕ) (x y : List ℕ) (n : ℕ) → isBytes s x ≡ true → isBytes s y ≡ true
     → measures s (ofBytes s x) (ofBytes s y) n ≡ measuresBytes s x y n

@@ -1,0 +1,186 @@
+-- The grids of packed rows and columns give the natives' strings: cell (x, y) of the rows is the first row of A(x,y), cell (y, x) of the
+-- columns is its first column. Assumes nothing.
+use mathlib.Core.List.{List, [], _∷_}
+use mathlib.Core.Path.{_≡_, refl, sym, ap, ap₂, _∙_}
+use mathlib.Core.Logic.{⊎-elim}
+use Prim.Native.Nat.{ℕ, zero, suc, _+_, _-_, _*_, _/_, _%_, _^_, _<_, _≤_}
+use native.Mathlib.Omega.{arith}
+use lib.Seq.{getD-set-same, getD-set-other}
+use lib.ListN.{getD, length, set}
+use borrow.Author.Count.{below-more}
+use Rattle.bicycle_common.specs.declared.AutomorphismData.{AutomorphismData}
+use Rattle.bicycle_common.specs.Letters.{xOf, zOf}
+use Rattle.bicycle_common.specs.Automorphisms.{component, ofPair, opposite, inverse}
+use Rattle.bicycle_common.specs.Ranges.{sum, listFrom, listed}
+use Rattle.bicycle_common.proofs.Letters.{digit-x, digit-z}
+use Rattle.bicycle_common.proofs.Ranges.{lt-or-ge}
+use Rattle.native_measurement.specs.Natives.{natives, letterOf, nativeOf, basesAt}
+use Rattle.measurement.specs.Matrices.{side, Matrix, ofRows, ofBytes, one, mul, pow, Same, Binary}
+use Rattle.measurement.specs.Measures.{action, packed, placed, placedBy, measured, nativeString}
+use Rattle.measurement.proofs.Matrices.{mul-binary, one-binary, pow-binary, mul-same, action-same, packed-same}
+use Rattle.measurement.proofs.Algebra.{one-left, one-right}
+use Rattle.natives.specs.Arrays.{at}
+use Rattle.natives.specs.Packed.{iterated, ofRowWords, ofColumnWords, Words, cell, Cells, SmallCells, wordString, gridString, Upto, Block}
+use Rattle.natives.proofs.Words.{iterated-lt, row-iterated, column-iterated}
+
+-- ---- cells are words
+
+pub cell-lt : (p q : List ℕ) → Words p → Words q → (i j : ℕ) → cell p q i j < 2 ^ side
+unfolding cell
+cell-lt p q hp hq i j = iterated-lt 6 (at q) _ hq (iterated-lt 6 (at p) 1 hp (omega arith) i) j
+
+pub cells-small : (p q : List ℕ) (g : List (List ℕ)) → Words p → Words q → Cells p q g → SmallCells g
+cells-small p q g hp hq h i j hi hj = rw (h i j hi hj) (cell-lt p q hp hq i j)
+
+-- ---- cells are rows and columns
+
+one-row : 1 ≡ packed 6 (λ (j : ℕ). one 0 j)
+unfolding packed sum one
+one-row = refl
+
+one-column : 1 ≡ packed 6 (λ (i : ℕ). one i 0)
+unfolding packed sum one
+one-column = refl
+
+six : 0 < 6
+six = omega arith
+
+-- A(x,y) for components that are reduced
+abbrev act : Matrix → Matrix → ℕ → ℕ → Matrix
+act a b x y = mul 6 (pow 6 a x) (pow 6 b y)
+
+row-cell : (p q : List ℕ) → Words p → Words q → (x y : ℕ) → cell p q x y ≡ packed 6 (λ (j : ℕ). act (ofRowWords p) (ofRowWords q) x y 0 j)
+unfolding cell
+row-cell p q hp hq x y =
+    ap (λ (v : ℕ). iterated 6 (at q) (iterated 6 (at p) v x) y) one-row
+    ∙ ap (λ (v : ℕ). iterated 6 (at q) v y) (row-iterated 6 six (at p) hp one (one-binary 6) x)
+    ∙ row-iterated 6 six (at q) hq (mul 6 one (pow 6 (ofRowWords p) x)) (mul-binary 6 one (pow 6 (ofRowWords p) x)) y
+    ∙ packed-same 6 (λ j l. mul-same 6 (one-left 6 (pow 6 (ofRowWords p) x) (pow-binary 6 (ofRowWords p) x)) (λ i k hi hk. refl) 0 j six l)
+
+column-cell : (p q : List ℕ) → Words p → Words q → (x y : ℕ)
+    → cell q p y x ≡ packed 6 (λ (i : ℕ). act (ofColumnWords p) (ofColumnWords q) x y i 0)
+unfolding cell
+column-cell p q hp hq x y =
+    ap (λ (v : ℕ). iterated 6 (at p) (iterated 6 (at q) v y) x) one-column
+    ∙ ap (λ (v : ℕ). iterated 6 (at p) v x) (column-iterated 6 six (at q) hq one (one-binary 6) y)
+    ∙ column-iterated 6 six (at p) hp (mul 6 (pow 6 (ofColumnWords q) y) one) (mul-binary 6 (pow 6 (ofColumnWords q) y) one) x
+    ∙ packed-same 6 (λ i l. mul-same 6 (λ i k hi hk. refl) (one-right 6 (pow 6 (ofColumnWords q) y) (pow-binary 6 (ofColumnWords q) y)) i 0 l six)
+
+-- ---- strings
+
+reduced : (m : ℕ) → m % 6 % 6 ≡ m % 6
+reduced m = omega arith
+
+opposite-lt : (x : ℕ) → opposite x < 6
+opposite-lt x = omega arith
+
+-- the components of automorphism m, and of its inverse
+first-component : (m : ℕ) → m < 36 → component (component (m / 6)) ≡ m / 6
+first-component m h = omega arith
+
+second-component : (m : ℕ) → component (component (m % 6)) ≡ m % 6
+second-component m = omega arith
+
+inverse-component : (x : ℕ) → component (opposite (component x)) ≡ opposite x
+inverse-component x = reduced (6 - x % 6 % 6) ∙ ap (λ (t : ℕ). (6 - t) % 6) (reduced x)
+
+action-at : (s : ℕ) (a b : Matrix) (t : AutomorphismData) (x y i k : ℕ) → component (t .x) ≡ x → component (t .y) ≡ y
+    → mul s (pow s a x) (pow s b y) i k ≡ action s a b t i k
+unfolding action
+action-at s a b t x y i k ex ey = rw (ex, ey)
+
+-- the four grids' words of two matrices
+pub record WordsOf (a b : Matrix) (rx ry cx cy : List ℕ) : Type 0 where
+  pub rows-x : Words rx × Same side (ofRowWords rx) a
+  pub rows-y : Words ry × Same side (ofRowWords ry) b
+  pub columns-x : Words cx × Same side (ofColumnWords cx) a
+  pub columns-y : Words cy × Same side (ofColumnWords cy) b
+
+module _ (a b : Matrix) (rx ry cx cy : List ℕ) (w : WordsOf a b rx ry cx cy) where
+  row-of : (t : AutomorphismData) (x y : ℕ) → component (t .x) ≡ x → component (t .y) ≡ y
+      → cell rx ry x y ≡ packed 6 (λ (j : ℕ). action 6 a b t 0 j)
+  row-of t x y ex ey =
+      row-cell rx ry (w .rows-x .0) (w .rows-y .0) x y
+      ∙ packed-same 6 (λ j l.
+      action-at 6 (ofRowWords rx) (ofRowWords ry) t x y 0 j ex ey ∙ action-same 6 (w .rows-x .1) (w .rows-y .1) t 0 j six l)
+
+  column-of : (t : AutomorphismData) (x y : ℕ) → component (t .x) ≡ x → component (t .y) ≡ y
+      → cell cy cx y x ≡ packed 6 (λ (i : ℕ). action 6 a b t i 0)
+  column-of t x y ex ey =
+      column-cell cx cy (w .columns-x .0) (w .columns-y .0) x y
+      ∙ packed-same 6 (λ i l.
+      action-at 6 (ofColumnWords cx) (ofColumnWords cy) t x y i 0 ex ey ∙ action-same 6 (w .columns-x .1) (w .columns-y .1) t i 0 l six)
+
+  -- a native's string by its two cells
+  cell-native : (n : ℕ) → n < natives
+      → wordString (cell cy cx (opposite (n / 15 % 6)) (opposite (n / 15 / 6))) (cell rx ry (n / 15 / 6) (n / 15 % 6)) (n % 15)
+      ≡ nativeString side a b n
+  unfolding nativeString measured nativeOf
+  cell-native n h =
+      let t = ofPair (n / 15 / 6) (n / 15 % 6) in
+      ap₂ (λ (u v : ℕ). placedBy 6 u v (basesAt (n % 15)))
+      (column-of (inverse t) _ _ (inverse-component (n / 15 / 6)) (inverse-component (n / 15 % 6)))
+      (row-of t _ _ (first-component (n / 15) (omega arith)) (second-component (n / 15)))
+
+  -- the strings of the grids are the natives' strings
+  pub grid-native : (cs rs : List (List ℕ)) → Cells cy cx cs → Cells rx ry rs → (n : ℕ) → n < natives → gridString cs rs n ≡ nativeString side a b n
+  unfolding gridString
+  grid-native cs rs hc hr n h =
+      ap₂ (λ (u v : ℕ). wordString u v (n % 15))
+      (hc (opposite (n / 15 % 6)) (opposite (n / 15 / 6)) (opposite-lt (n / 15 % 6)) (opposite-lt (n / 15 / 6)))
+      (hr (n / 15 / 6) (n / 15 % 6) (omega arith) (omega arith))
+      ∙ cell-native n h
+
+-- ---- six bytes, and the digits of two letters
+
+six-listed : (f : ℕ → ℕ) (a : ℕ) → a ≡ f 0 → (a ∷ f 1 ∷ f 2 ∷ f 3 ∷ f 4 ∷ f 5 ∷ []) ≡ listed f side
+unfolding listFrom
+six-listed f a e = ap (λ (x : ℕ). x ∷ f 1 ∷ f 2 ∷ f 3 ∷ f 4 ∷ f 5 ∷ []) e
+
+pub row-bytes : (m : List ℕ) (i : ℕ)
+    → (at m (6 * i) ∷ at m (6 * i + 1) ∷ at m (6 * i + 2) ∷ at m (6 * i + 3) ∷ at m (6 * i + 4) ∷ at m (6 * i + 5) ∷ []) ≡ listed (ofBytes side m i) side
+row-bytes m i = let e : 6 * i ≡ 6 * i + 0 = omega arith in six-listed (ofBytes 6 m i) (at m (6 * i)) (ap (at m) e)
+
+pub column-bytes : (m : List ℕ) (j : ℕ)
+    → (at m j ∷ at m (6 + j) ∷ at m (12 + j) ∷ at m (18 + j) ∷ at m (24 + j) ∷ at m (30 + j) ∷ []) ≡ listed (λ (i : ℕ). ofBytes side m i j) side
+column-bytes m j = let e : j ≡ 6 * 0 + j = omega arith in six-listed (λ (i : ℕ). ofBytes 6 m i j) (at m j) (ap (at m) e)
+
+letter-digits : (r : ℕ) → r < 4 → (xOf (letterOf r) ≡ r % 2) × (zOf (letterOf r) ≡ r / 2)
+letter-digits r h = (digit-x (r % 2) (r / 2) (omega arith) (omega arith), digit-z (r % 2) (r / 2) (omega arith) (omega arith))
+
+pub place-digits : (c w k : ℕ) → k < 15
+    → placed side c w ((k + 1) / 4 % 2) ((k + 1) / 4 / 2) ((k + 1) % 4 % 2) ((k + 1) % 4 / 2) ≡ wordString c w k
+place-digits c w k h =
+    let a = letter-digits ((k + 1) / 4) (omega arith) in
+    let b = letter-digits ((k + 1) % 4) (omega arith) in
+    rw (a .0, a .1, b .0, b .1)
+
+-- ---- the loops that write them
+
+-- what is written at each place from b on
+pub stored-from : {A : Type 0} (P : ℕ → A → Type 0) (l : List A) (d : A) (b k : ℕ) (v : A) → b + k < length l
+    → ((t : ℕ) → t < k → P t (getD l (b + t) d)) → P k v → (t : ℕ) → t < k + 1 → P t (getD (set l (b + k) v) (b + t) d)
+stored-from P l d b k v hk h p =
+    below-more (λ (t : ℕ). P t (getD (set l (b + k) v) (b + t) d)) k
+    (λ t lt. rw (getD-set-other l (b + k) (b + t) v d (λ e. omega arith)) (h t lt))
+    (rw (getD-set-same l (b + k) v d hk) p)
+
+split-15 : (n a : ℕ) → 15 * a ≤ n → n < 15 * (a + 1) → (n / 15 ≡ a) × (n % 15 ≡ n - 15 * a)
+split-15 n a h k = (omega arith, omega arith)
+
+pub block-more : (cs rs : List (List ℕ)) (a c w : ℕ) (l m : List ℕ) → a < 36
+    → c ≡ ofRows cs ((6 - a % 6) % 6) ((6 - a / 6) % 6) → w ≡ ofRows rs (a / 6) (a % 6)
+    → Block c w a l m → Upto cs rs a l → Upto cs rs (a + 1) m
+unfolding gridString
+block-more cs rs a c w l m h ec ew b u = (
+  b .size,
+  λ n hn. ⊎-elim
+      (λ (q : n < 15 * a). b .stays n q ∙ u .1 n q)
+      (λ (q : 15 * a ≤ n).
+      let e : n ≡ 15 * a + (n - 15 * a) = omega arith in
+      let d = split-15 n a q hn in
+      let o1 : opposite (a % 6) ≡ (6 - a % 6) % 6 = ap (λ (t : ℕ). (6 - t) % 6) (reduced a) in
+      let o2 : opposite (a / 6) ≡ (6 - a / 6) % 6 = ap (λ (t : ℕ). (6 - t) % 6) (let z : a / 6 % 6 ≡ a / 6 = omega arith in z) in
+      ap (at m) e ∙ b .here (n - 15 * a) (omega arith) ∙ rw (d .0, d .1, o1, o2, ec, ew))
+      (lt-or-ge n (15 * a)),
+)

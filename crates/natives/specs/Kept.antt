@@ -1,0 +1,22 @@
+-- Which native is kept of those that measure one string. Assumes nothing.
+use mathlib.Core.Bool.{Bool, not, _&&_}
+use mathlib.Core.Path.{_≡_}
+use Prim.Native.Nat.{ℕ, _<_}
+use lib.Dec.{eqb, ltb}
+use Rattle.bicycle_common.specs.Ranges.{allBelow}
+use Rattle.native_measurement.specs.Natives.{natives}
+
+-- f m is the string of native m. Native m beats n when it has the same string and a greater number.
+abbrev pub beats : (ℕ → ℕ) → ℕ → ℕ → Bool
+beats f m n = ltb n m && eqb (f m) (f n)
+
+-- native n is kept when no native beats it
+unfoldable pub keptBy : (ℕ → ℕ → Bool) → ℕ → Bool
+keptBy beats n = allBelow natives (λ (m : ℕ). not (beats m n))
+
+abbrev pub kept : (ℕ → ℕ) → ℕ → Bool
+kept f = keptBy (beats f)
+
+-- the same, as a statement: no greater number has the string of n
+abbrev pub Kept : (ℕ → ℕ) → ℕ → Type 0
+Kept f n = (m : ℕ) → n < m → m < natives → f m ≡ f n → ⊥

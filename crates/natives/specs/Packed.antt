@@ -1,0 +1,70 @@
+-- Vectors modulo 2 as words: entry j is binary digit j. A matrix is six words, its rows or its columns; 1 is the first unit vector, and
+-- the first row of a product is 1 taken through the rows of the factors. Assumes nothing.
+use mathlib.Core.List.{List}
+use mathlib.Core.Path.{_≡_}
+use Prim.Native.Nat.{ℕ, zero, suc, _+_, _*_, _/_, _%_, _^_, _<_}
+use lib.Bits.{bitXor}
+use lib.ListN.{length, getD}
+use Rattle.bicycle_common.specs.Letters.{letter}
+use Rattle.bicycle_common.specs.Automorphisms.{opposite}
+use Rattle.pauli_string.specs.Strings.{bit}
+use Rattle.native_measurement.specs.Natives.{natives, basesAt}
+use Rattle.measurement.specs.Matrices.{side, Matrix, ofRows}
+use Rattle.measurement.specs.Measures.{placedBy}
+use Rattle.natives.specs.Arrays.{at}
+
+-- f 0 xor .. xor f (n - 1)
+unfoldable pub xors : ℕ → (ℕ → ℕ) → ℕ
+xors zero f = 0
+xors (suc n) f = bitXor (xors n f) (f n)
+
+-- the words R k for which digit k of v is 1, added modulo 2
+unfoldable pub combined : ℕ → (ℕ → ℕ) → ℕ → ℕ
+combined s R v = xors s (λ (k : ℕ). bit v k * R k)
+
+-- v taken through R, n times
+unfoldable pub iterated : ℕ → (ℕ → ℕ) → ℕ → ℕ → ℕ
+iterated s R v zero = v
+iterated s R v (suc n) = combined s R (iterated s R v n)
+
+-- the matrix of which r holds the rows, and of which r holds the columns
+abbrev pub ofRowWords : List ℕ → Matrix
+ofRowWords r i j = bit (at r i) j
+
+abbrev pub ofColumnWords : List ℕ → Matrix
+ofColumnWords r i j = bit (at r j) i
+
+-- r holds words of as many digits as the side
+abbrev pub Words : List ℕ → Type 0
+Words r = (k : ℕ) → k < side → at r k < 2 ^ side
+
+-- 1 taken through p i times, then through q j times; a grid of these; and that its cells are words
+unfoldable pub cell : List ℕ → List ℕ → ℕ → ℕ → ℕ
+cell p q i j = iterated side (at q) (iterated side (at p) 1 i) j
+
+abbrev pub Cells : List ℕ → List ℕ → List (List ℕ) → Type 0
+Cells p q g = (i j : ℕ) → i < side → j < side → ofRows g i j ≡ cell p q i j
+
+abbrev pub SmallCells : List (List ℕ) → Type 0
+SmallCells g = (i j : ℕ) → i < side → j < side → ofRows g i j < 2 ^ side
+
+-- ---- strings
+
+-- the string of pair k of letters, of which c is the column and w the row
+abbrev pub wordString : ℕ → ℕ → ℕ → ℕ
+wordString c w k = placedBy side c w (basesAt k)
+
+-- the string of native n, by a grid of columns and a grid of rows
+unfoldable pub gridString : List (List ℕ) → List (List ℕ) → ℕ → ℕ
+gridString cs rs n =
+    wordString (ofRows cs (opposite (n / 15 % 6)) (opposite (n / 15 / 6))) (ofRows rs (n / 15 / 6) (n / 15 % 6)) (n % 15)
+
+-- l holds the strings of the automorphisms below a
+abbrev pub Upto : List (List ℕ) → List (List ℕ) → ℕ → List ℕ → Type 0
+Upto cs rs a l = (length l ≡ natives) × ((n : ℕ) → n < 15 * a → at l n ≡ gridString cs rs n)
+
+-- the strings of automorphism a are written, and those before it stay
+pub record Block (c w a : ℕ) (l m : List ℕ) : Type 0 where
+  pub size : length m ≡ natives
+  pub stays : (n : ℕ) → n < 15 * a → at m n ≡ at l n
+  pub here : (k : ℕ) → k < 15 → at m (15 * a + k) ≡ wordString c w k
