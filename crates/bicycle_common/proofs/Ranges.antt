@@ -39,6 +39,28 @@ unfolding sum
 sum-le zero f h = omega arith
 sum-le (suc n) f h = omega (arith, sum-le n f (λ j l. h j (omega arith)), h n (omega arith))
 
+-- the first term apart
+pub sum-first : (n : ℕ) (f : ℕ → ℕ) → sum (suc n) f ≡ f 0 + sum n (λ (j : ℕ). f (suc j))
+unfolding sum
+sum-first zero f = omega arith
+sum-first (suc n) f = omega (arith, sum-first n f)
+
+pub sum-zero : (n : ℕ) (f : ℕ → ℕ) → sum n f ≡ 0 → (j : ℕ) → j < n → f j ≡ 0
+unfolding sum
+sum-zero zero f e j h = absurd (not-suc-le-zero h)
+sum-zero (suc n) f e j h =
+    ⊎-elim (λ (q : j ≡ n). rw q (omega arith)) (λ (q : j < n). sum-zero n f (omega arith) j q) (eq-or-lt-of-le (le-of-suc-le-suc h))
+
+-- a sum over 0 has a term over 0
+pub sum-pos : (n : ℕ) (f : ℕ → ℕ) → 0 < sum n f → (j : ℕ) × (j < n) × (0 < f j)
+unfolding sum
+sum-pos zero f h = absurd (omega arith)
+sum-pos (suc n) f h =
+    ⊎-elim
+    (λ (q : 0 < f n). (n, omega arith, q))
+    (λ (q : f n ≤ 0). let r = sum-pos n f (omega arith) in (r .0, omega (arith, r .1), r .2))
+    (lt-or-ge 0 (f n))
+
 -- ---- tests
 
 pub all-below : (n : ℕ) (f : ℕ → Bool) → T (allBelow n f) → (j : ℕ) → j < n → T (f j)

@@ -2,3 +2,4 @@
 pub mod Matrices
 pub mod Algebra
 pub mod Strings
+pub mod Letters

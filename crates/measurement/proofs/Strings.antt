@@ -70,7 +70,7 @@ native-same s z p q n = measured-same s z p q (nativeOf n)
 
 -- ---- every string is below 4 ^ (2 * s)
 
-half-lt : (c P x y : ℕ) → c < P → x ≤ 1 → y ≤ 1 → c * (x + P * y) < P * P
+pub half-lt : (c P x y : ℕ) → c < P → x ≤ 1 → y ≤ 1 → c * (x + P * y) < P * P
 half-lt c P x y h hx hy =
     let a : c * x ≤ c * 1 = mul-le-mul {n₁ = c} {n₂ = c} (omega arith) hx in
     let b : c * (P * y) ≤ (P - 1) * (P * 1) = mul-le-mul {n₂ = P - 1} (omega arith) (mul-le-mul {n₁ = P} {n₂ = P} (omega arith) hy) in

@@ -12,11 +12,13 @@ use lib.Dec.{eqb}
 use lib.Seq.{getD-set-same, getD-set-other}
 use borrow.Author.Tests.{eqb-true, eqb-false, eq-eqb, ne-eqb}
 use Rattle.bicycle_common.specs.Letters.{flag}
-use Rattle.bicycle_common.proofs.Ranges.{lt-or-ge}
+use Rattle.bicycle_common.proofs.Ranges.{lt-or-ge, sum-next, sum-le, sum-first, sum-zero, sum-pos}
+use Rattle.bicycle_common.specs.Ranges.{sum}
+use Rattle.measurement.proofs.Matrices.{flag-le}
 use Rattle.native_measurement.specs.Natives.{natives}
 use Rattle.natives.specs.Kept.{kept}
 use Rattle.natives.specs.Arrays.{at}
-use Rattle.natives.specs.Chains.{buckets, bucket, Next, Linked, Heads}
+use Rattle.natives.specs.Chains.{buckets, bucket, Next, Linked, Heads, occurrences}
 use Rattle.natives.proofs.Kept.{not-kept, kept-complete}
 
 -- ---- the chains
@@ -81,34 +83,49 @@ heads-start f h l = subst (λ (x : ℕ). Next f h 540 x) (sym (getD-replicate 10
 
 -- ---- the count
 
--- the number of strings from n + 1 up to m - 1 that are that of n, by what it is good for
-pub record Counted (s : List ℕ) (n m c : ℕ) : Type 0 where
-  pub small : c ≤ m
-  pub clear : c ≡ 0 → Clear s n m
-  pub met : 0 < c → kept (at s) n ≡ false
+pub occurrences-none : (f : ℕ → ℕ) (v from : ℕ) → 0 ≡ occurrences f v from (from - from)
+unfolding sum
+occurrences-none f v from = let e : from - from ≡ 0 = omega arith in rw e
 
-pub counted-start : (s : List ℕ) (n : ℕ) → Counted s n (n + 1) 0
-counted-start s n = record { small = omega arith; clear = λ z t a b e. omega arith; met = λ p. absurd (omega arith) }
+pub occurrences-more : (f : ℕ → ℕ) (v from m : ℕ) → from ≤ m → occurrences f v from (m + 1 - from) ≡ occurrences f v from (m - from) + flag (eqb (f m) v)
+occurrences-more f v from m h =
+    let e : m + 1 - from ≡ m - from + 1 = omega arith in
+    let d : from + (m - from) ≡ m = omega arith in
+    rw e (sum-next (m - from) (λ (j : ℕ). flag (eqb (f (from + j)) v)) ∙ ap (λ (i : ℕ). occurrences f v from (m - from) + flag (eqb (f i) v)) d)
 
-pub counted-more : (s : List ℕ) (n m c : ℕ) (b : Bool) → n < m → m < natives → eqb (at s m) (at s n) ≡ b → Counted s n m c
-    → Counted s n (m + 1) (c + flag b)
-counted-more s n m c true h hm q p = record {
-  small = omega (arith, p .small);
-  clear = λ z. absurd (omega arith);
-  met = λ z. not-kept (at s) n m h hm (eqb-true (at s m) (at s n) q);
-}
-counted-more s n m c false h hm q p = record {
-  small = omega (arith, p .small);
-  clear = λ z t lo hi e. ⊎-elim
-      (λ (r : t ≡ m). eqb-false (at s m) (at s n) q (ap (at s) (sym r) ∙ e))
-      (λ (r : t < m). p .clear (omega arith) t lo r e)
-      (eq-or-lt-of-le (omega arith));
-  met = λ z. p .met (omega arith);
-}
+pub occurrences-le : (f : ℕ → ℕ) (v from k : ℕ) → occurrences f v from k ≤ k
+occurrences-le f v from k = sum-le k _ (λ j h. flag-le (eqb (f (from + j)) v))
 
-pub counted-end : (s : List ℕ) (n m c : ℕ) → n < natives → natives ≤ m → Counted s n m c → eqb c 0 ≡ kept (at s) n
-counted-end s n m c hn hm p =
+flag-pos : (b : Bool) → 0 < flag b → b ≡ true
+flag-pos true h = refl
+flag-pos false h = absurd (omega arith)
+
+flag-zero : (b : Bool) → flag b ≡ 0 → b ≡ false
+flag-zero true h = absurd (omega arith)
+flag-zero false h = refl
+
+-- the string of native n, and k natives behind it
+once : (f : ℕ → ℕ) (n k : ℕ) → n + suc k ≡ natives → eqb (occurrences f (f n) n (suc k)) 1 ≡ kept f n
+once f n k e =
+    let F : ℕ → ℕ = λ j. flag (eqb (f (n + j)) (f n)) in
+    let rest : ℕ = sum k (λ (j : ℕ). F (suc j)) in
+    let z : n + 0 ≡ n = omega arith in
+    let head : F 0 ≡ 1 = ap flag (eq-eqb (f (n + 0)) (f n) (ap f z)) in
+    let total : sum (suc k) F ≡ 1 + rest = sum-first k F ∙ ap (λ (a : ℕ). a + rest) head in
     ⊎-elim
-    (λ (q : 0 ≡ c). eq-eqb c 0 (sym q) ∙ sym (clear-kept s n m hn hm (p .clear (sym q))))
-    (λ (q : 0 < c). ne-eqb c 0 (λ e. omega arith) ∙ sym (p .met q))
+    (λ (q : 0 ≡ rest).
+    eq-eqb (sum (suc k) F) 1 (omega arith)
+    ∙ sym (kept-complete f n (λ m l hm p.
+    let i : n + suc (m - n - 1) ≡ m = omega arith in
+    eqb-false (f (n + suc (m - n - 1))) (f n) (flag-zero _ (sum-zero k (λ (j : ℕ). F (suc j)) (sym q) (m - n - 1) (omega arith))) (ap f i ∙ p))))
+    (λ (q : 0 < rest).
+    let w = sum-pos k (λ (j : ℕ). F (suc j)) q in
+    let h = w .1 in
+    ne-eqb (sum (suc k) F) 1 (λ p. omega arith)
+    ∙ sym (not-kept f n (n + suc (w .0)) (omega arith) (omega arith) (eqb-true (f (n + suc (w .0))) (f n) (flag-pos _ (w .2)))))
     (eq-or-lt-of-le (omega arith))
+
+pub occurs-once : (f : ℕ → ℕ) (n : ℕ) → n < natives → eqb (occurrences f (f n) n (natives - n)) 1 ≡ kept f n
+occurs-once f n h =
+    let e : natives - n ≡ suc (natives - n - 1) = omega arith in
+    rw e (once f n (natives - n - 1) (omega arith))

@@ -14,7 +14,7 @@ use Rattle.bicycle_common.proofs.Ranges.{all-below, all-true, all-false, all-sa
 use Rattle.native_measurement.specs.Natives.{natives}
 use Rattle.measurement.specs.Matrices.{side, ofBytes}
 use Rattle.measurement.specs.Measures.{nativeString}
-use Rattle.natives.specs.Kept.{beats, keptBy, kept, Kept}
+use Rattle.natives.specs.Kept.{beats, keptBy, kept, Kept, Keeper}
 use Rattle.natives.specs.Arrays.{at, strings, flags, nativesOf}
 
 -- ---- the test
@@ -54,14 +54,6 @@ flags-same f g h =
     (λ n hn. listed-at (kept f) false natives n hn ∙ kept-same f g h n hn)
 
 -- ---- the greatest of those with one string
-
--- native k is kept for the string of n
-pub record Keeper (f : ℕ → ℕ) (n k : ℕ) : Type 0 where
-  pub below : k < natives
-  pub same : f k ≡ f n
-  pub is-kept : kept f k ≡ true
-  pub greatest : (m : ℕ) → m < natives → f m ≡ f n → m ≤ k
-  pub only : (m : ℕ) → m < natives → f m ≡ f n → kept f m ≡ true → m ≡ k
 
 keeper-here : (f : ℕ → ℕ) (n k : ℕ) → k < natives → f k ≡ f n → ((m : ℕ) → k < m → m < natives → f m ≡ f n → ⊥) → Keeper f n k
 keeper-here f n k h e above = record {

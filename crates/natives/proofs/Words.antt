@@ -17,6 +17,7 @@ use Rattle.pauli_string.proofs.Digits.{bit-lt, bit-low}
 use Rattle.measurement.specs.Matrices.{Matrix, one, mul, pow, Same, Binary}
 use Rattle.measurement.specs.Measures.{packed}
 use Rattle.measurement.proofs.Matrices.{product-le, packed-same, packed-lt, mul-binary, mul-same}
+use Rattle.measurement.proofs.Letters.{packed-suc, packed-none, bit-packed}
 use Rattle.measurement.proofs.Algebra.{sum-scale, assoc, one-left, one-right, pow-left}
 use Rattle.natives.specs.Packed.{xors, combined, iterated}
 
@@ -24,29 +25,6 @@ use Rattle.natives.specs.Packed.{xors, combined, iterated}
 
 pub bit-le : (n i : ℕ) → bit n i ≤ 1
 bit-le n i = omega (arith, bit-lt n i)
-
-packed-suc : (s : ℕ) (f : ℕ → ℕ) → packed (suc s) f ≡ f s * 2 ^ s + packed s f
-unfolding packed sum
-packed-suc s f = add-comm (sum s (λ (i : ℕ). f i * 2 ^ i)) (f s * 2 ^ s)
-
-bit-top : (a b s : ℕ) → a ≤ 1 → b < 2 ^ s → bit (a * 2 ^ s + b) s ≡ a
-unfolding bit
-bit-top a b s h l = ap (λ (n : ℕ). n % 2) (high a s l) ∙ mod-eq-of-lt (omega arith)
-
-packed-none : (f : ℕ → ℕ) → 0 ≡ packed 0 f
-unfolding packed sum
-packed-none f = refl
-
--- a packed number's digits are what was packed
-pub bit-packed : (s : ℕ) (f : ℕ → ℕ) → ((j : ℕ) → j < s → f j ≤ 1) → (j : ℕ) → j < s → bit (packed s f) j ≡ f j
-bit-packed zero f h j l = omega arith
-bit-packed (suc s) f h j l =
-    let b : packed s f < 2 ^ s = packed-lt s f (λ i q. h i (omega arith)) in
-    rw (packed-suc s f)
-    (⊎-elim
-    (λ (e : j ≡ s). rw e (bit-top (f s) (packed s f) s (h s (omega arith)) b))
-    (λ (q : j < s). sym (bit-low (f s * 2 ^ s + packed s f) s j q) ∙ ap (λ (n : ℕ). bit n j) (low (f s) s b) ∙ bit-packed s f (λ i r. h i (omega arith)) j q)
-    (eq-or-lt-of-le (omega arith)))
 
 -- a number is its digits, packed
 bits-mod : (s n : ℕ) → n % 2 ^ s ≡ packed s (bit n)

@@ -1,7 +1,7 @@
 -- Which native is kept of those that measure one string. Assumes nothing.
-use mathlib.Core.Bool.{Bool, not, _&&_}
+use mathlib.Core.Bool.{Bool, true, not, _&&_}
 use mathlib.Core.Path.{_≡_}
-use Prim.Native.Nat.{ℕ, _<_}
+use Prim.Native.Nat.{ℕ, _<_, _≤_}
 use lib.Dec.{eqb, ltb}
 use Rattle.bicycle_common.specs.Ranges.{allBelow}
 use Rattle.native_measurement.specs.Natives.{natives}
@@ -20,3 +20,12 @@ kept f = keptBy (beats f)
 -- the same, as a statement: no greater number has the string of n
 abbrev pub Kept : (ℕ → ℕ) → ℕ → Type 0
 Kept f n = (m : ℕ) → n < m → m < natives → f m ≡ f n → ⊥
+
+-- native k is the one kept for the string of n: it has that string and is kept, it is the greatest of those that have it, and no other of
+-- them is kept
+pub record Keeper (f : ℕ → ℕ) (n k : ℕ) : Type 0 where
+  pub below : k < natives
+  pub same : f k ≡ f n
+  pub is-kept : kept f k ≡ true
+  pub greatest : (m : ℕ) → m < natives → f m ≡ f n → m ≤ k
+  pub only : (m : ℕ) → m < natives → f m ≡ f n → kept f m ≡ true → m ≡ k

@@ -11,7 +11,7 @@
 use measurement::CodeMeasurement;
 ghost use mathlib.Core.Path.{_≡_};
 ghost use mathlib.Core.Bool.{true};
-ghost use Prim.Native.Nat.{ℕ, _+_, _*_, _<_, _≤_};
+ghost use Prim.Native.Nat.{ℕ, _+_, _-_, _*_, _<_, _≤_};
 ghost use lib.Dec.{eqb};
 ghost use lib.ListN.{getD, length};
 ghost use Rattle.bicycle_common.specs.Letters.{flag};
@@ -21,7 +21,7 @@ ghost use Rattle.measurement.specs.Measures.{packed};
 ghost use Rattle.natives.specs.Kept.{kept};
 ghost use Rattle.natives.specs.Arrays.{at, strings, flags, nativesOf};
 ghost use Rattle.natives.specs.Packed.{combined, iterated, ofRowWords, ofColumnWords, Words, Cells, SmallCells, wordString, Upto, Block};
-ghost use Rattle.natives.specs.Chains.{bucket, Next, Linked};
+ghost use Rattle.natives.specs.Chains.{bucket, Next, Linked, occurrences};
 
 // The natives of a pair.
 pub struct Natives {
@@ -224,19 +224,27 @@ fn same(a: u32, b: u32) -> u32
     if a == b { 1 } else { 0 }
 }
 
-// Whether native n is kept. The loop has no branch, for speed.
+// How many of the strings from one index up to another are v. The loop has no branch, for speed.
+fn count(s: &[u32], v: u32, from: usize, to: usize) -> u32
+    requires { ⌜ (from ≤ to) × (to ≤ length (now s)) × (to ≤ natives) ⌝ }
+    ensures { λ r. ⌜ r ≡ occurrences (at (now (s .entry))) v from (to - from) ⌝ }
+{
+    let mut c: u32 = 0;
+    let mut m: usize = from;
+    while m < to {
+        c += same(s[m], v);
+        m += 1;
+    }
+    c
+}
+
+// Whether native n is kept: from n on its string occurs once.
 pub fn is_kept_unchecked(s: &[u32], n: usize) -> bool
     requires { ⌜ (length (now s) ≡ natives) × (n < natives) ⌝ }
     ensures { λ r. ⌜ r ≡ kept (at (now (s .entry))) n ⌝ }
 {
     let v = s[n];
-    let mut c: u32 = 0;
-    let mut m: usize = n + 1;
-    while m < 540 {
-        c += same(s[m], v);
-        m += 1;
-    }
-    c == 0
+    count(s, v, n, 540) == 1
 }
 
 // ---- all of it
