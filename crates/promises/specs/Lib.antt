@@ -1,3 +1,4 @@
 -- The promises, in document 01's words. Each file stands by itself; the proofs under it are in the crates that it names.
 pub mod Edges
 pub mod Strings
+pub mod Natives

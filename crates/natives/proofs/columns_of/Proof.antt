@@ -8,7 +8,7 @@ use Rattle.pauli_string.specs.Strings.{bit}
 use Rattle.measurement.specs.Matrices.{ofBytes}
 use Rattle.measurement.specs.Measures.{packed}
 use Rattle.measurement.proofs.Matrices.{packed-lt}
-use Rattle.natives.proofs.Words.{bit-packed}
+use Rattle.measurement.proofs.Letters.{bit-packed}
 use Rattle.natives.proofs.columns_of.Statement.{statement}
 use Rattle.natives.proofs.columns_of.Tie as tie
 
