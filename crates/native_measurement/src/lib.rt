@@ -89,10 +89,9 @@ impl NativeMeasurement {
         if i < NATIVES {
             // The pairs of letters are counted from (I,X) on
             let pair = i % 15 + 1;
-            let TwoBasesAnswer::Is(logical) = TwoBases::new(
-                letter_of(pair / 4),
-                letter_of(pair % 4),
-            ) else {
+            let p1 = letter_of(pair / 4);
+            let p7 = letter_of(pair % 4);
+            let TwoBasesAnswer::Is(logical) = TwoBases::new(p1, p7) else {
                 return NativeAnswer::Refused(Refusal::NativeRange);
             };
             let a = (i / 15) as u8;
