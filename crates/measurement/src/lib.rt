@@ -159,7 +159,9 @@ fn action(mx: [[u8; 6]; 6], my: [[u8; 6]; 6], a: AutomorphismData) -> [[u8; 6]; 
     requires { ⌜ Binary side (ofRows mx) × Binary side (ofRows my) ⌝ }
     ensures { λ r. ⌜ Same side (ofRows r) (action side (ofRows mx) (ofRows my) a) ⌝ }
 {
-    product(power(mx, a.get_x()), power(my, a.get_y()))
+    let x = power(mx, a.get_x());
+    let y = power(my, a.get_y());
+    product(x, y)
 }
 
 // The first column of A(x,y).
@@ -293,7 +295,11 @@ fn place_bases(c: u32, r: u32, bases: TwoBases) -> u32
 {
     let p1 = bases.get_basis_1();
     let p7 = bases.get_basis_7();
-    place_unchecked(c, r, x_of(p1), z_of(p1), x_of(p7), z_of(p7))
+    let x1 = x_of(p1);
+    let z1 = z_of(p1);
+    let x7 = x_of(p7);
+    let z7 = z_of(p7);
+    place_unchecked(c, r, x1, z1, x7, z7)
 }
 
 // The string that a native measures.

@@ -124,9 +124,10 @@ pub fn implementation(n: NativeNumber) -> ImplementationAnswer
     };
     let logical = native.logical;
     let automorphism = native.automorphism;
+    let inverse = automorphism.inv();
     ImplementationAnswer::Is(
         BicycleISA::Automorphism(automorphism),
         BicycleISA::Measure(logical),
-        BicycleISA::Automorphism(automorphism.inv()),
+        BicycleISA::Automorphism(inverse),
     )
 }

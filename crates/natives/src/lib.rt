@@ -67,7 +67,7 @@ fn run(v: u32, r: [u32; 6]) -> [u32; 6]
 // 1 taken through p i times and then through q j times, for each i and j.
 fn grid(p: [u32; 6], q: [u32; 6]) -> [[u32; 6]; 6]
     requires { ⌜ Words p × Words q ⌝ }
-    ensures { λ g. ⌜ Cells p q g ⌝ }
+    ensures { λ g. ⌜ Cells p q g × SmallCells g ⌝ }
 {
     let heads = run(1, p);
     let mut out = [[0u32; 6]; 6];
@@ -163,9 +163,13 @@ pub fn strings_unchecked(mx: &[u8], my: &[u8], out: &mut [u32])
     requires { ⌜ (isBytes side (now mx) ≡ true) × (isBytes side (now my) ≡ true) × (length (now out) ≡ natives) ⌝ }
     ensures { λ r. ⌜ now (out .exit) ≡ strings (ofBytes side (now (mx .entry))) (ofBytes side (now (my .entry))) ⌝ }
 {
-    let rs = grid(rows_of(mx), rows_of(my));
-    // My comes first: a column is taken through the last factor first
-    let cs = grid(columns_of(my), columns_of(mx));
+    let rx = rows_of(mx);
+    let ry = rows_of(my);
+    let cx = columns_of(mx);
+    let cy = columns_of(my);
+    let rs = grid(rx, ry);
+    // A column is taken through the last factor first
+    let cs = grid(cy, cx);
     blocks(cs, rs, out);
 }
 

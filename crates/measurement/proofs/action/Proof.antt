@@ -18,7 +18,10 @@ power-requires-2 : tie.Need-power-requires-2
 power-requires-2 c κs = search needs
 
 product-requires : tie.Need-product-requires
-product-requires c κs = (same-binary 6 (c .before .before .power .ensures) (pow-binary 6 _ _), same-binary 6 (c .power2 .ensures) (pow-binary 6 _ _))
+product-requires c κs =
+    let x = same-binary 6 (c .before .before .power .ensures) (pow-binary 6 _ _) in
+    let y = same-binary 6 (c .power2 .ensures) (pow-binary 6 _ _) in
+    search needs
 
 returns : tie.Need-returns
 unfolding action

@@ -24,14 +24,12 @@ z-of-requires-2 : tie.Need-z-of-requires-2
 z-of-requires-2 c κs = search needs
 
 place-unchecked-requires : tie.Need-place-unchecked-requires
-place-unchecked-requires c κs = (
-  search needs,
-  search needs,
-  x-le (c .before .before .before .before .before .get-basis-1 .result) (c .before .before .before .x-of .ensures),
-  z-le (c .before .before .before .before .before .get-basis-1 .result) (c .before .before .z-of .ensures),
-  x-le (c .before .before .before .before .get-basis-7 .result) (c .before .x-of2 .ensures),
-  z-le (c .before .before .before .before .get-basis-7 .result) (c .z-of2 .ensures),
-)
+place-unchecked-requires c κs =
+    let x1 = x-le (c .before .before .before .before .before .get-basis-1 .result) (c .before .before .before .x-of .ensures) in
+    let z1 = z-le (c .before .before .before .before .before .get-basis-1 .result) (c .before .before .z-of .ensures) in
+    let x7 = x-le (c .before .before .before .before .get-basis-7 .result) (c .before .x-of2 .ensures) in
+    let z7 = z-le (c .before .before .before .before .get-basis-7 .result) (c .z-of2 .ensures) in
+    search needs
 
 returns : tie.Need-returns
 returns c =

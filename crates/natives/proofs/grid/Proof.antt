@@ -6,7 +6,8 @@ use native.Mathlib.Omega.{arith}
 use lib.ListN.{length, length-set, getD, set}
 use Rattle.bicycle_common.proofs.Ranges.{stored-more}
 use Rattle.natives.specs.Arrays.{at}
-use Rattle.natives.specs.Packed.{iterated, cell}
+use Rattle.natives.specs.Packed.{iterated, cell, Cells}
+use Rattle.natives.proofs.Grids.{cells-small}
 use Rattle.natives.proofs.grid.Statement.{statement}
 use Rattle.natives.proofs.grid.Tie as tie
 
@@ -54,11 +55,14 @@ loop-again c =
           (w .inv .2) (c .run2 .ensures),
     )
 
-returns : tie.Need-returns Inv-loop μ-loop
+cells : (c : tie.After-loop Inv-loop μ-loop) → Cells (c .before .before .before .args .p) (c .before .before .before .args .q) (c .before .loop .out)
 unfolding cell
-returns c =
+cells c =
     let q = c .before .before .before .args .q in
     λ i j hi hj. c .before .loop .inv .2 i (omega arith) j hj ∙ ap (λ (v : ℕ). iterated 6 (at q) v j) (c .before .before .run .ensures i hi)
+
+returns : tie.Need-returns Inv-loop μ-loop
+returns c = (cells c, cells-small _ _ (c .before .loop .out) (c .before .before .before .pre .0) (c .before .before .before .pre .1) (cells c))
 
 pub grid-spec : {M : Type 1} → statement M
 grid-spec =
