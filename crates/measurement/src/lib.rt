@@ -91,13 +91,6 @@ fn identity() -> [[u8; 6]; 6]
     IDENTITY
 }
 
-fn at(m: [[u8; 6]; 6], i: usize, j: usize) -> u8
-    requires { ⌜ (i < side) × (j < side) ⌝ }
-    ensures { λ r. ⌜ r ≡ ofRows m i j ⌝ }
-{
-    m[i][j]
-}
-
 // Row i of a times column k of b.
 fn dot(a: [[u8; 6]; 6], b: [[u8; 6]; 6], i: usize, k: usize) -> u8
     requires { ⌜ (i < side) × (k < side) ⌝ }
@@ -107,7 +100,9 @@ fn dot(a: [[u8; 6]; 6], b: [[u8; 6]; 6], i: usize, k: usize) -> u8
     let mut acc: u8 = 0;
     let mut j: usize = 0;
     while j < 6 {
-        acc += at(a, i, j) * at(b, j, k);
+        let x = a[i][j];
+        let y = b[j][k];
+        acc += x * y;
         j += 1;
     }
     acc % 2
@@ -173,7 +168,7 @@ fn first_column(mx: [[u8; 6]; 6], my: [[u8; 6]; 6], a: AutomorphismData) -> [u8;
     let mut out = [0u8; 6];
     let mut i: usize = 0;
     while i < 6 {
-        out[i] = at(m, i, 0);
+        out[i] = m[i][0];
         i += 1;
     }
     out
@@ -188,7 +183,7 @@ fn first_row(mx: [[u8; 6]; 6], my: [[u8; 6]; 6], a: AutomorphismData) -> [u8; 6]
     let mut out = [0u8; 6];
     let mut j: usize = 0;
     while j < 6 {
-        out[j] = at(m, 0, j);
+        out[j] = m[0][j];
         j += 1;
     }
     out
@@ -203,7 +198,7 @@ fn flat(m: [[u8; 6]; 6]) -> [u8; 36]
     let mut out = [0u8; 36];
     let mut q: usize = 0;
     while q < 36 {
-        out[q] = at(m, q / 6, q % 6);
+        out[q] = m[q / 6][q % 6];
         q += 1;
     }
     out

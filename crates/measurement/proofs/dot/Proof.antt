@@ -10,28 +10,42 @@ use Rattle.measurement.proofs.dot.Statement.{statement}
 use Rattle.measurement.proofs.dot.Tie as tie
 
 abbrev Inv-loop : tie.InvT-loop
-Inv-loop a b i k acc₀ j₀ acc j = (j ≤ 6) × (acc ≤ j) × (acc ≡ sum j (λ (t : ℕ). ofRows a i t * ofRows b t k))
+Inv-loop i k a b acc₀ j₀ acc j = (j ≤ 6) × (acc ≤ j) × (acc ≡ sum j (λ (t : ℕ). ofRows a i t * ofRows b t k))
 
 abbrev μ-loop : tie.MeasureT-loop
-μ-loop a b i k acc₀ j₀ acc j = 6 - j
+μ-loop i k a b acc₀ j₀ acc j = 6 - j
 
 -- both numbers are 0 or 1
-small : (c : tie.After-at2 Inv-loop μ-loop) → c .before .at .result * c .at2 .result ≤ 1
+small : (c : tie.After-y Inv-loop μ-loop)
+    → let s = c .before .before .before .before in
+    let j = c .before .before .before .loop .j in
+    ofRows (s .args .t1) (s .args .i) j * ofRows (s .args .t2) j (s .args .k) ≤ 1
 small c =
     let s = c .before .before .before .before in
     let j = c .before .before .before .loop .j in
-    rw (c .before .at .ensures, c .at2 .ensures)
-    (product-le _ _ (s .pre .1 .0 (s .args .i) j (omega arith) (omega arith)) (s .pre .1 .1 j (s .args .k) (omega arith) (omega arith)))
+    product-le _ _ (s .pre .1 .0 (s .args .i) j (omega arith) (omega arith)) (s .pre .1 .1 j (s .args .k) (omega arith) (omega arith))
 
 loop-holds : tie.Need-loop-holds Inv-loop μ-loop
 unfolding sum
 loop-holds c = (search needs, search needs, refl)
 
-at-requires : tie.Need-at-requires Inv-loop μ-loop
-at-requires c κs = search needs
+mul-x : tie.Need-mul-x Inv-loop μ-loop
+mul-x c = search needs
 
-at-requires-2 : tie.Need-at-requires-2 Inv-loop μ-loop
-at-requires-2 c κs = search needs
+index-1-x : tie.Need-index-1-x Inv-loop μ-loop
+index-1-x c = search needs
+
+index-2-x : tie.Need-index-2-x Inv-loop μ-loop
+index-2-x c = search needs
+
+mul-y : tie.Need-mul-y Inv-loop μ-loop
+mul-y c = search needs
+
+index-1-y : tie.Need-index-1-y Inv-loop μ-loop
+index-1-y c = search needs
+
+index-2-y : tie.Need-index-2-y Inv-loop μ-loop
+index-2-y c = search needs
 
 mul-acc : tie.Need-mul-acc Inv-loop μ-loop
 mul-acc c = omega (arith, small c)
@@ -59,8 +73,12 @@ dot-spec =
     Inv-loop
     μ-loop
     loop-holds
-    at-requires
-    at-requires-2
+    mul-x
+    index-1-x
+    index-2-x
+    mul-y
+    index-1-y
+    index-2-y
     mul-acc
     add-acc
     add-j

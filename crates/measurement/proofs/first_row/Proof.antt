@@ -21,8 +21,11 @@ action-requires c κs = search needs
 loop-holds : tie.Need-loop-holds Inv-loop μ-loop
 loop-holds c = (search needs, refl, λ t h. omega arith)
 
-at-requires : tie.Need-at-requires Inv-loop μ-loop
-at-requires c κs = search needs
+index-1-out : tie.Need-index-1-out Inv-loop μ-loop
+index-1-out c = search needs
+
+index-2-out : tie.Need-index-2-out Inv-loop μ-loop
+index-2-out c = search needs
 
 array-write-out : tie.Need-array-write-out Inv-loop μ-loop
 array-write-out c = search needs
@@ -39,7 +42,7 @@ loop-again c =
     let m = c .before .before .before .action .result in (
       search needs,
       simp length-set (omega arith),
-      stored-more (λ (t x : ℕ). x ≡ ofRows m 0 t) (w .out) 0 (w .j) _ (omega arith) (w .inv .2) (c .at .ensures),
+      stored-more (λ (t x : ℕ). x ≡ ofRows m 0 t) (w .out) 0 (w .j) _ (omega arith) (w .inv .2) refl,
     )
 
 returns : tie.Need-returns Inv-loop μ-loop
@@ -57,7 +60,8 @@ first-row-spec =
     μ-loop
     action-requires
     loop-holds
-    at-requires
+    index-1-out
+    index-2-out
     array-write-out
     add-j
     loop-less

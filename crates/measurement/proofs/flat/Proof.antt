@@ -17,8 +17,14 @@ abbrev μ-loop : tie.MeasureT-loop
 loop-holds : tie.Need-loop-holds Inv-loop μ-loop
 loop-holds c = (search needs, refl, λ t h. omega arith)
 
-at-requires : tie.Need-at-requires Inv-loop μ-loop
-at-requires c κs = search needs
+mul-out : tie.Need-mul-out Inv-loop μ-loop
+mul-out c = search needs
+
+index-1-out : tie.Need-index-1-out Inv-loop μ-loop
+index-1-out c = search needs
+
+index-2-out : tie.Need-index-2-out Inv-loop μ-loop
+index-2-out c = search needs
 
 array-write-out : tie.Need-array-write-out Inv-loop μ-loop
 array-write-out c = search needs
@@ -32,16 +38,16 @@ loop-less c = search needs
 loop-again : tie.Need-loop-again Inv-loop μ-loop
 loop-again c =
     let w = c .before .before .loop in
-    let m = c .before .before .before .args .m in (
+    let m = c .before .before .before .args .t1 in (
       search needs,
       simp length-set (omega arith),
-      stored-more (λ (t x : ℕ). x ≡ ofRows m (t / 6) (t % 6)) (w .out) 0 (w .q) _ (omega arith) (w .inv .2) (c .at .ensures),
+      stored-more (λ (t x : ℕ). x ≡ ofRows m (t / 6) (t % 6)) (w .out) 0 (w .q) _ (omega arith) (w .inv .2) refl,
     )
 
 returns : tie.Need-returns Inv-loop μ-loop
 returns c =
     let w = c .before .loop in
-    let m = c .before .before .args .m in
+    let m = c .before .before .args .t1 in
     listed-all (λ (q : ℕ). ofRows m (q / 6) (q % 6)) 0 (w .out) 36 (w .inv .1) (λ t h. w .inv .2 t (omega arith))
 
 pub flat-spec : {M : Type 1} → statement M
@@ -51,7 +57,9 @@ flat-spec =
     Inv-loop
     μ-loop
     loop-holds
-    at-requires
+    mul-out
+    index-1-out
+    index-2-out
     array-write-out
     add-q
     loop-less
