@@ -1,13 +1,11 @@
 -- The product modulo 2 is associative, `one` is its unit, and a power grows on either side. By sums, term by term. Assumes nothing.
-use mathlib.Core.Bool.{Bool, true, false}
 use mathlib.Core.Path.{_≡_, refl, sym, ap, _∙_}
-use Prim.Native.Nat.{ℕ, zero, suc, _+_, _*_, _/_, _%_, _<_, _≤_}
+use Prim.Native.Nat.{ℕ, zero, suc, _+_, _*_, _/_, _%_, _<_}
 use native.Mathlib.Nat.{mod-add-div, add-mul, mul-add, mul-assoc, mul-comm, eq-or-lt-of-le}
 use native.Mathlib.Omega.{arith}
 use mathlib.Core.Logic.{⊎-elim}
 use lib.Dec.{eqb}
 use borrow.Author.Tests.{eq-eqb, ne-eqb}
-use native.Mathlib.Numerals.{add-one}
 use Rattle.bicycle_common.specs.Letters.{flag}
 use Rattle.bicycle_common.specs.Ranges.{sum}
 use Rattle.bicycle_common.proofs.Ranges.{sum-same}

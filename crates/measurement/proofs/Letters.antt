@@ -7,16 +7,14 @@ use native.Mathlib.Nat.{add-comm, mul-comm, mul-assoc, mul-add, mul-le-mul, mod-
 use native.Mathlib.Omega.{arith}
 use lib.Pow.{high, low, pow-add}
 use Rattle.bicycle_common.specs.declared.Pauli.{Pauli}
-use Rattle.bicycle_common.specs.declared.TwoBases.{TwoBases}
 use Rattle.bicycle_common.specs.Letters.{xOf, zOf, letter}
 use Rattle.bicycle_common.specs.Automorphisms.{inverse}
 use Rattle.bicycle_common.specs.Ranges.{sum}
 use Rattle.pauli_string.specs.Strings.{bit, letterAt}
 use Rattle.pauli_string.proofs.Digits.{bit-zero, bit-high, bit-low}
 use Rattle.native_measurement.specs.declared.NativeMeasurement.{NativeMeasurement}
-use Rattle.native_measurement.specs.Natives.{nativeOf}
 use Rattle.measurement.specs.Matrices.{Matrix}
-use Rattle.measurement.specs.Measures.{action, packed, firstColumn, firstRow, placed, placedBy, measured, nativeString}
+use Rattle.measurement.specs.Measures.{action, packed, firstColumn, firstRow, placed, measured}
 use Rattle.measurement.proofs.Matrices.{packed-lt, action-binary}
 use Rattle.measurement.proofs.Strings.{x-le, z-le, half-lt, column-lt, row-lt}
 

@@ -1,13 +1,13 @@
 -- The strings that natives measure: they depend on the numbers of the matrices alone, are below 4 ^ (2 * s), and string 1 is always among
 -- them. Assumes nothing.
-use mathlib.Core.Path.{_≡_, refl, sym, ap, ap₂, subst, _∙_}
+use mathlib.Core.Path.{_≡_, refl, sym, ap, ap₂, _∙_}
 use mathlib.Core.Bool.{Bool, true, false, cond, _&&_, and-eq-true-iff}
-use mathlib.Core.List.{List, []}
-use Prim.Native.Nat.{ℕ, zero, suc, _+_, _-_, _*_, _/_, _%_, _^_, _<_, _≤_}
-use native.Mathlib.Nat.{mul-le-mul, mul-comm, mul-assoc, mul-add, add-mul, mul-one, mul-zero, add-zero}
+use mathlib.Core.List.{List}
+use Prim.Native.Nat.{ℕ, zero, suc, _+_, _-_, _*_, _^_, _<_, _≤_}
+use native.Mathlib.Nat.{mul-le-mul, mul-add, add-mul, mul-one}
 use native.Mathlib.Omega.{arith}
 use lib.Dec.{eqb, ltb}
-use lib.Pow.{pow-add, pow-pos}
+use lib.Pow.{pow-add}
 use lib.ListN.{length, getD}
 use borrow.Author.Tests.{eqb-true, ne-eqb}
 use Rattle.bicycle_common.specs.declared.Pauli.{Pauli}
@@ -19,7 +19,6 @@ use Rattle.bicycle_common.specs.Automorphisms.{inverse}
 use Rattle.bicycle_common.specs.Ranges.{sum, listed}
 use Rattle.bicycle_common.proofs.Ranges.{listed-at}
 use Rattle.bicycle_common.proofs.Letters.{xOf-lt, zOf-lt}
-use Rattle.pauli_string.specs.declared.StringAnswer.{StringAnswer}
 use Rattle.pauli_string.specs.declared.StringAnswer.the-variants.{Refused as NoString}
 use Rattle.pauli_string.specs.Answers.{string}
 use Rattle.pauli_string.proofs.Range.{four-pow}
@@ -27,7 +26,7 @@ use Rattle.native_measurement.specs.declared.NativeMeasurement.{NativeMeasureme
 use Rattle.native_measurement.specs.declared.NativeAnswer.the-variants.{Is as NativeIs, Refused as NoNative}
 use Rattle.native_measurement.specs.Answers.{nativeAt}
 use Rattle.native_measurement.specs.Natives.{natives, nativeOf}
-use Rattle.measurement.specs.Matrices.{side, Matrix, ofRows, ofBytes, one, mul, pow, isBinary, isBytes, Binary, Same}
+use Rattle.measurement.specs.Matrices.{Matrix, ofBytes, one, mul, pow, isBinary, isBytes, Binary, Same}
 use Rattle.measurement.specs.Measures.{action, packed, firstColumn, firstRow, placed, placedBy, measured, nativeString}
 use Rattle.measurement.specs.Answers.{measuresIf, measures, measuresBytes}
 use Rattle.measurement.proofs.Matrices.{one-binary, action-binary, is-binary, binary-same, action-same, packed-same, packed-lt}

@@ -1,10 +1,10 @@
 -- Chained buckets find each native's next equal: the walk along a chain meets every greater native with the same string, and so does the
 -- count. Assumes nothing.
 use mathlib.Core.Bool.{Bool, true, false}
-use mathlib.Core.List.{List, []}
+use mathlib.Core.List.{List}
 use mathlib.Core.Logic.{⊎-elim}
 use mathlib.Core.Path.{_≡_, refl, sym, ap, _∙_, subst}
-use Prim.Native.Nat.{ℕ, zero, suc, _+_, _-_, _*_, _/_, _%_, _<_, _≤_}
+use Prim.Native.Nat.{ℕ, suc, _+_, _-_, _%_, _<_, _≤_}
 use native.Mathlib.Nat.{eq-or-lt-of-le}
 use native.Mathlib.Omega.{arith}
 use lib.ListN.{getD, length, set, replicate, getD-replicate}
@@ -18,7 +18,7 @@ use Rattle.measurement.proofs.Matrices.{flag-le}
 use Rattle.native_measurement.specs.Natives.{natives}
 use Rattle.natives.specs.Kept.{kept}
 use Rattle.natives.specs.Arrays.{at}
-use Rattle.natives.specs.Chains.{buckets, bucket, Next, Linked, Heads, occurrences}
+use Rattle.natives.specs.Chains.{buckets, bucket, Next, Heads, occurrences}
 use Rattle.natives.proofs.Kept.{not-kept, kept-complete}
 
 -- ---- the chains

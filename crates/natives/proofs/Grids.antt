@@ -1,9 +1,9 @@
 -- The grids of packed rows and columns give the natives' strings: cell (x, y) of the rows is the first row of A(x,y), cell (y, x) of the
 -- columns is its first column. Assumes nothing.
 use mathlib.Core.List.{List, [], _∷_}
-use mathlib.Core.Path.{_≡_, refl, sym, ap, ap₂, _∙_}
+use mathlib.Core.Path.{_≡_, refl, ap, ap₂, _∙_}
 use mathlib.Core.Logic.{⊎-elim}
-use Prim.Native.Nat.{ℕ, zero, suc, _+_, _-_, _*_, _/_, _%_, _^_, _<_, _≤_}
+use Prim.Native.Nat.{ℕ, _+_, _-_, _*_, _/_, _%_, _^_, _<_, _≤_}
 use native.Mathlib.Omega.{arith}
 use lib.Seq.{getD-set-same, getD-set-other}
 use lib.ListN.{getD, length, set}
@@ -15,7 +15,7 @@ use Rattle.bicycle_common.specs.Ranges.{sum, listFrom, listed}
 use Rattle.bicycle_common.proofs.Letters.{digit-x, digit-z}
 use Rattle.bicycle_common.proofs.Ranges.{lt-or-ge}
 use Rattle.native_measurement.specs.Natives.{natives, letterOf, nativeOf, basesAt}
-use Rattle.measurement.specs.Matrices.{side, Matrix, ofRows, ofBytes, one, mul, pow, Same, Binary}
+use Rattle.measurement.specs.Matrices.{side, Matrix, ofRows, ofBytes, one, mul, pow, Same}
 use Rattle.measurement.specs.Measures.{action, packed, placed, placedBy, measured, nativeString}
 use Rattle.measurement.proofs.Matrices.{mul-binary, one-binary, pow-binary, mul-same, action-same, packed-same}
 use Rattle.measurement.proofs.Algebra.{one-left, one-right}

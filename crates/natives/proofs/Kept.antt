@@ -4,13 +4,12 @@ use mathlib.Core.Bool.{Bool, true, false, not, _&&_}
 use mathlib.Core.List.{List}
 use mathlib.Core.Logic.{⊎-elim}
 use mathlib.Core.Path.{_≡_, refl, sym, ap, ap₂, subst, _∙_}
-use Prim.Native.Nat.{ℕ, zero, suc, _+_, _-_, _<_, _≤_}
+use Prim.Native.Nat.{ℕ, zero, suc, _-_, _<_, _≤_}
 use native.Mathlib.Nat.{eq-or-lt-of-le, le-antisymm}
 use native.Mathlib.Omega.{arith, by-contra}
 use lib.Dec.{T, eqb, ltb}
 use borrow.Author.Tests.{lt-ltb, eq-eqb, ltb-true, eqb-true, eqb-false}
-use Rattle.bicycle_common.specs.Ranges.{allBelow, listed}
-use Rattle.bicycle_common.proofs.Ranges.{all-below, all-true, all-false, all-same, length-from, listed-at, listed-all}
+use Rattle.bicycle_common.proofs.Ranges.{all-true, all-false, all-same, length-from, listed-at, listed-all}
 use Rattle.native_measurement.specs.Natives.{natives}
 use Rattle.measurement.specs.Matrices.{side, ofBytes}
 use Rattle.measurement.specs.Measures.{nativeString}

@@ -1,20 +1,18 @@
 -- Vectors modulo 2 packed into words: a word is its digits, exclusive or adds them, and a word taken through the rows of a matrix n times is
 -- the vector times the n-th power. Assumes nothing.
-use mathlib.Core.List.{List, []}
 use mathlib.Core.Path.{_≡_, refl, sym, ap, ap₂, _∙_}
 use Prim.Native.Nat.{ℕ, zero, suc, _+_, _-_, _*_, _/_, _%_, _^_, _<_, _≤_}
-use native.Mathlib.Nat.{mod-lt, mul-assoc, mod-eq-of-lt, add-comm, mul-comm, eq-or-lt-of-le}
+use native.Mathlib.Nat.{mod-lt, mul-assoc, mod-eq-of-lt, mul-comm}
 use native.Mathlib.Numerals.{one-add}
 use native.Mathlib.Omega.{arith}
-use mathlib.Core.Logic.{⊎-elim}
 use lib.Arith.{lt-one}
-use lib.Pow.{pow-pos, high, low, mod-pow-add}
+use lib.Pow.{pow-pos, mod-pow-add}
 use lib.Bits.{bitXor, xor-block}
 use Rattle.bicycle_common.specs.Ranges.{sum}
 use Rattle.bicycle_common.proofs.Ranges.{sum-same}
 use Rattle.pauli_string.specs.Strings.{bit}
-use Rattle.pauli_string.proofs.Digits.{bit-lt, bit-low}
-use Rattle.measurement.specs.Matrices.{Matrix, one, mul, pow, Same, Binary}
+use Rattle.pauli_string.proofs.Digits.{bit-lt}
+use Rattle.measurement.specs.Matrices.{Matrix, mul, pow, Binary}
 use Rattle.measurement.specs.Measures.{packed}
 use Rattle.measurement.proofs.Matrices.{product-le, packed-same, packed-lt, mul-binary, mul-same}
 use Rattle.measurement.proofs.Letters.{packed-suc, packed-none, bit-packed}

@@ -4,8 +4,7 @@ use mathlib.Core.List.{List}
 use mathlib.Core.Path.{_≡_}
 use Prim.Native.Nat.{ℕ, zero, suc, _+_, _*_, _/_, _%_, _^_, _<_}
 use lib.Bits.{bitXor}
-use lib.ListN.{length, getD}
-use Rattle.bicycle_common.specs.Letters.{letter}
+use lib.ListN.{length}
 use Rattle.bicycle_common.specs.Automorphisms.{opposite}
 use Rattle.pauli_string.specs.Strings.{bit}
 use Rattle.native_measurement.specs.Natives.{natives, basesAt}

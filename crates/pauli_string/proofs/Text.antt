@@ -5,7 +5,7 @@ use mathlib.Core.Logic.{_↔_}
 use mathlib.Mathlib.Data.List.Basic.{map-reverseAux}
 use mathlib.Core.List.{List, [], _∷_, _++_, map, map-append, reverse, reverse-cons, reverse-reverse}
 use Prim.Native.Nat.{ℕ, zero, suc, _+_, _-_, _*_, _/_, _%_, _^_, _≤_, _<_}
-use native.Mathlib.Nat.{mod-lt, le-of-suc-le-suc, not-suc-le-zero, le-refl, add-zero, add-suc, suc-add, zero-add, div-one, pow-suc, lt-of-lt-of-le}
+use native.Mathlib.Nat.{mod-lt, le-of-suc-le-suc, not-suc-le-zero, le-refl, div-one, pow-suc, lt-of-lt-of-le}
 use native.Mathlib.Numerals.{add-one, one-add}
 use native.Mathlib.Omega.{arith}
 use lib.Dec.{eqb}

@@ -2,7 +2,7 @@
 -- capitals and read in either case. Assumes nothing.
 use mathlib.Core.Bool.{Bool, true, false, _&&_}
 use mathlib.Core.List.{List, [], _∷_, map, reverse}
-use Prim.Native.Nat.{ℕ, zero, suc, _+_, _*_, _^_}
+use Prim.Native.Nat.{ℕ, _+_, _*_, _^_}
 use lib.ListN.{length}
 use lib.Dec.{eqb}
 use Rattle.bicycle_common.specs.declared.Pauli.{Pauli}

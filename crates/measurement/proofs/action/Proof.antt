@@ -1,5 +1,4 @@
 use borrow.Author.Needs.{needs}
-use mathlib.Core.Path.{_≡_, refl, sym, ap, ap₂, _∙_}
 use Rattle.measurement.specs.Measures.{action}
 use Rattle.measurement.proofs.Matrices.{same-binary, pow-binary, same-trans, mul-same}
 use Rattle.measurement.proofs.action.Statement.{statement}

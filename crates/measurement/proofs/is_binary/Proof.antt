@@ -1,9 +1,6 @@
 use borrow.Author.Needs.{needs}
-use mathlib.Core.Path.{_≡_, refl, sym, ap, ap₂, _∙_}
-use native.Mathlib.Omega.{arith}
-use mathlib.Core.List.{List}
-use Prim.Native.Nat.{ℕ}
-use Rattle.measurement.specs.Matrices.{side, byRows, isBinary, isBytes}
+use mathlib.Core.Path.{ap, _∙_}
+use Rattle.measurement.specs.Matrices.{side, isBytes}
 use Rattle.measurement.proofs.Matrices.{by-rows-binary}
 use Rattle.measurement.proofs.is_binary.Statement.{statement}
 use Rattle.measurement.proofs.is_binary.Tie as tie

@@ -1,6 +1,4 @@
 use borrow.Author.Needs.{needs}
-use mathlib.Core.Path.{_≡_, refl, sym, ap, ap₂, _∙_}
-use native.Mathlib.Omega.{arith}
 use Rattle.measurement.proofs.Strings.{x-le, z-le}
 use Rattle.measurement.proofs.place_bases.Statement.{statement}
 use Rattle.measurement.proofs.place_bases.Tie as tie

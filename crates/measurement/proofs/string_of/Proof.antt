@@ -1,9 +1,7 @@
 use borrow.Author.Needs.{needs}
-use mathlib.Core.Path.{_≡_, refl, sym, ap, ap₂, _∙_}
+use mathlib.Core.Path.{_∙_}
 use native.Mathlib.Omega.{arith}
-use Prim.Native.Nat.{ℕ}
 use Rattle.measurement.specs.Matrices.{ofRows}
-use Rattle.measurement.specs.Measures.{action}
 use Rattle.measurement.proofs.Matrices.{action-binary}
 use Rattle.measurement.proofs.Strings.{listed-le, packed-listed-lt, measured-by}
 use Rattle.measurement.proofs.string_of.Statement.{statement}

@@ -1,6 +1,5 @@
 use borrow.Author.Needs.{needs}
-use mathlib.Core.Path.{_≡_, refl, sym, ap, ap₂, _∙_}
-use Rattle.native_measurement.specs.Answers.{nativeAt, implementationAt}
+use mathlib.Core.Path.{sym, _∙_}
 use Rattle.native_measurement.proofs.Natives.{no-implementation, implementation-of}
 use Rattle.native_measurement.proofs.implementation.Statement.{statement}
 use Rattle.native_measurement.proofs.implementation.Tie as tie

@@ -1,6 +1,5 @@
-use mathlib.Core.Path.{_≡_, refl, sym, ap, ap₂, _∙_}
+use mathlib.Core.Path.{_≡_, sym, ap}
 use native.Mathlib.Omega.{arith}
-use Prim.Native.Nat.{ℕ}
 use Rattle.native_measurement.specs.Natives.{letterOf}
 use Rattle.native_measurement.proofs.letter_of.Statement.{statement}
 use Rattle.native_measurement.proofs.letter_of.Tie as tie

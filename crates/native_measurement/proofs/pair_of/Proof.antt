@@ -1,5 +1,5 @@
 use borrow.Author.Needs.{needs}
-use mathlib.Core.Path.{_≡_, refl, sym, ap, ap₂, _∙_}
+use mathlib.Core.Path.{ap, _∙_}
 use Rattle.bicycle_common.specs.Letters.{rank}
 use native.Mathlib.Omega.{arith}
 use Rattle.native_measurement.proofs.Natives.{place-lt}

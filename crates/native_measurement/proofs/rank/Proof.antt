@@ -1,5 +1,5 @@
 use borrow.Author.Needs.{needs}
-use mathlib.Core.Path.{_≡_, refl, sym, ap, ap₂, _∙_}
+use mathlib.Core.Path.{sym, ap}
 use Rattle.bicycle_common.specs.Letters.{rank}
 use Rattle.native_measurement.proofs.rank.Statement.{statement}
 use Rattle.native_measurement.proofs.rank.Tie as tie

@@ -1,9 +1,9 @@
 use borrow.Author.Needs.{needs}
-use mathlib.Core.Path.{_≡_, refl, sym, ap, ap₂, _∙_}
-use Prim.Native.Nat.{ℕ, _+_, _-_, _*_, _/_, _%_, _^_, _<_, _≤_}
+use mathlib.Core.Path.{_≡_, refl, sym, _∙_}
+use Prim.Native.Nat.{_-_, _<_, _≤_}
 use native.Mathlib.Omega.{arith}
 use Rattle.natives.specs.Arrays.{at}
-use Rattle.natives.specs.Chains.{bucket, Next}
+use Rattle.natives.specs.Chains.{bucket}
 use Rattle.natives.proofs.Kept.{not-kept}
 use Rattle.natives.proofs.Chains.{Clear, clear-start, clear-more, clear-kept}
 use Rattle.natives.proofs.alone.Statement.{statement}

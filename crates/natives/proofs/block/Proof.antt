@@ -1,11 +1,11 @@
 use borrow.Author.Needs.{needs}
-use mathlib.Core.Path.{_≡_, refl, sym, ap, ap₂, _∙_}
-use Prim.Native.Nat.{ℕ, _+_, _-_, _*_, _/_, _%_, _^_, _<_, _≤_}
+use mathlib.Core.Path.{_≡_, refl, _∙_}
+use Prim.Native.Nat.{ℕ, _+_, _-_, _*_, _<_, _≤_}
 use native.Mathlib.Omega.{arith}
-use lib.ListN.{length, length-set, getD, set}
+use lib.ListN.{length, length-set}
 use lib.Seq.{getD-set-other}
 use Rattle.natives.specs.Arrays.{at}
-use Rattle.natives.specs.Packed.{wordString, Block}
+use Rattle.natives.specs.Packed.{wordString}
 use Rattle.natives.proofs.Grids.{stored-from}
 use Rattle.natives.proofs.block.Statement.{statement}
 use Rattle.natives.proofs.block.Tie as tie

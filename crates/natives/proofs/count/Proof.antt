@@ -1,10 +1,8 @@
 use borrow.Author.Needs.{needs}
-use mathlib.Core.Path.{_≡_, refl, sym, ap, ap₂, _∙_}
-use Prim.Native.Nat.{ℕ, _+_, _-_, _*_, _/_, _%_, _^_, _<_, _≤_}
+use mathlib.Core.Path.{_≡_, sym, ap, ap₂, _∙_}
+use Prim.Native.Nat.{ℕ, _+_, _-_, _≤_}
 use native.Mathlib.Omega.{arith}
 use lib.Dec.{eqb}
-use Rattle.bicycle_common.specs.Ranges.{sum}
-use Rattle.bicycle_common.specs.Letters.{flag}
 use Rattle.measurement.proofs.Matrices.{flag-le}
 use Rattle.natives.specs.Arrays.{at}
 use Rattle.natives.specs.Chains.{occurrences}

@@ -1,4 +1,4 @@
-use mathlib.Core.Path.{_≡_, refl, sym, ap, ap₂, _∙_}
+use mathlib.Core.Path.{sym, ap}
 use borrow.Author.Tests.{eq-eqb, ne-eqb}
 use Rattle.bicycle_common.specs.Letters.{flag}
 use Rattle.natives.proofs.same.Statement.{statement}

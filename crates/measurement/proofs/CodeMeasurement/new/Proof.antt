@@ -1,5 +1,4 @@
 use borrow.Author.Needs.{needs}
-use mathlib.Core.Path.{_≡_, refl, sym, ap, ap₂, _∙_}
 use Rattle.measurement.proofs.CodeMeasurement.new.Statement.{statement}
 use Rattle.measurement.proofs.CodeMeasurement.new.Tie as tie
 

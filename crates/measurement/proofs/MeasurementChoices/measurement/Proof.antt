@@ -1,5 +1,5 @@
 use borrow.Author.Needs.{needs}
-use mathlib.Core.Path.{_≡_, refl, sym, ap, ap₂, _∙_}
+use mathlib.Core.Path.{sym, ap, _∙_}
 use Rattle.bicycle_common.specs.Ranges.{listFrom}
 use Rattle.measurement.specs.Codes.{codePair}
 use Rattle.measurement.proofs.MeasurementChoices.measurement.Statement.{statement}

@@ -1,8 +1,5 @@
 use borrow.Author.Needs.{needs}
-use mathlib.Core.Path.{_≡_, refl, sym, ap, ap₂, _∙_}
 use native.Mathlib.Omega.{arith}
-use Prim.Native.Nat.{ℕ, _+_, _*_}
-use Rattle.native_measurement.specs.declared.NativeNumber.{NativeNumber}
 use Rattle.native_measurement.specs.Natives.{numberOf}
 use Rattle.native_measurement.proofs.Natives.{pair-lt}
 use Rattle.native_measurement.proofs.NativeMeasurement.number.Statement.{statement}
