@@ -26,6 +26,7 @@ use Rattle.native_measurement.specs.declared.NativeMeasurement.{NativeMeasureme
 use Rattle.native_measurement.specs.declared.NativeAnswer.the-variants.{Is as NativeIs, Refused as NoNative}
 use Rattle.native_measurement.specs.Answers.{nativeAt}
 use Rattle.native_measurement.specs.Natives.{natives, nativeOf}
+use Rattle.native_measurement.proofs.Natives.{native-none, native-some}
 use Rattle.measurement.specs.Matrices.{Matrix, ofBytes, one, mul, pow, isBinary, isBytes, Binary, Same}
 use Rattle.measurement.specs.Measures.{action, packed, firstColumn, firstRow, placed, placedBy, measured, nativeString}
 use Rattle.measurement.specs.Answers.{measuresIf, measures, measuresBytes}
@@ -162,12 +163,7 @@ module _ (s : ℕ) (mx my : Matrix) (n : ℕ) where
   second-bad a b ea eb = rw (ea, eb)
 
   pub no-native : (good : Bool) → good ≡ true → (r : Refusal) → nativeAt n ≡ NoNative r → NoString NativeRange ≡ measuresIf good s mx my n
-  no-native good e r h = rw e (go (ltb n natives) h)
-    where
-      go : (t : Bool) → cond t (NativeIs (nativeOf n)) (NoNative NativeRange) ≡ NoNative r
-          → NoString NativeRange ≡ cond t (string (nativeString s mx my n)) (NoString NativeRange)
-      go true h = cc
-      go false h = refl
+  no-native good e r h = rw (e, native-none n r h)
 
   string-is : (m : NativeMeasurement) → nativeOf n ≡ m → (p : ℕ) → p ≡ measured s mx my m → string p ≡ string (nativeString s mx my n)
   unfolding nativeString
@@ -175,12 +171,7 @@ module _ (s : ℕ) (mx my : Matrix) (n : ℕ) where
 
   pub the-string : (good : Bool) → good ≡ true → (m : NativeMeasurement) → nativeAt n ≡ NativeIs m → (p : ℕ) → p ≡ measured s mx my m
       → string p ≡ measuresIf good s mx my n
-  the-string good e m h p ep = rw e (go (ltb n natives) h)
-    where
-      go : (t : Bool) → cond t (NativeIs (nativeOf n)) (NoNative NativeRange) ≡ NativeIs m
-          → string p ≡ cond t (string (nativeString s mx my n)) (NoString NativeRange)
-      go true h = let f : nativeOf n ≡ m = cc in string-is m f p ep
-      go false h = cc
+  the-string good e m h p ep = let q = native-some n m h in rw (e, q .0) (string-is m (q .1) p ep)
 
 -- ---- rows and bytes
 

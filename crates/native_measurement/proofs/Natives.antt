@@ -21,7 +21,7 @@ use Rattle.bicycle_common.specs.Automorphisms.{ofPair, inverse}
 use Rattle.native_measurement.specs.declared.NativeMeasurement.{NativeMeasurement}
 use Rattle.native_measurement.specs.declared.NativeAnswer.the-variants.{Is as NativeIs, Refused as NoNative}
 use Rattle.native_measurement.specs.declared.ImplementationAnswer.the-variants.{Is as Instructions, Refused as NoInstructions}
-use Rattle.native_measurement.specs.Answers.{nativeAt, implementation, implementationAt}
+use Rattle.native_measurement.specs.Answers.{nativeAt, implementationAt}
 use Rattle.native_measurement.specs.Natives.{natives, letterOf, nativeOf, pairOf, numberOf, allBases, all}
 
 -- ---- places of letters
@@ -166,24 +166,30 @@ pub native-number : (p q : Pauli) (x y : ℕ) (b : TwoBases) → basesOf p q ≡
     → nativeOf (numberOf (record { logical = b; automorphism = ofPair x y })) ≡ record { logical = b; automorphism = ofPair x y }
 native-number p q x y b e = let r = bases p q b e in rw (← r .1) (native-made p q x y (r .0))
 
--- ---- the implementation
+-- ---- what the calls answer
+
+none-by : (n : ℕ) (r : Refusal) (t : Bool) → cond t (NativeIs (nativeOf n)) (NoNative NativeRange) ≡ NoNative r → t ≡ false
+none-by n r true e = cc
+none-by n r false e = refl
+
+some-by : (n : ℕ) (m : NativeMeasurement) (t : Bool) → cond t (NativeIs (nativeOf n)) (NoNative NativeRange) ≡ NativeIs m
+    → (t ≡ true) × (nativeOf n ≡ m)
+some-by n m true e = (refl, cc)
+some-by n m false e = (cc, cc)
+
+-- what an answer tells of the number
+pub native-none : (n : ℕ) (r : Refusal) → nativeAt n ≡ NoNative r → ltb n natives ≡ false
+native-none n r e = none-by n r (ltb n natives) e
+
+pub native-some : (n : ℕ) (m : NativeMeasurement) → nativeAt n ≡ NativeIs m → (ltb n natives ≡ true) × (nativeOf n ≡ m)
+native-some n m e = some-by n m (ltb n natives) e
 
 pub no-implementation : (n : ℕ) (r : Refusal) → nativeAt n ≡ NoNative r → NoInstructions NativeRange ≡ implementationAt n
-no-implementation n r e = go (ltb n natives) e
-  where
-    go : (t : Bool) → cond t (NativeIs (nativeOf n)) (NoNative NativeRange) ≡ NoNative r
-        → NoInstructions NativeRange ≡ cond t (implementation (nativeOf n)) (NoInstructions NativeRange)
-    go true e = cc
-    go false e = refl
+no-implementation n r e = rw (native-none n r e)
 
 pub implementation-of : (n : ℕ) (m : NativeMeasurement) → nativeAt n ≡ NativeIs m → (i : AutomorphismData) → i ≡ inverse (m .automorphism)
     → Instructions (Automorphism (m .automorphism)) (Measure (m .logical)) (Automorphism i) ≡ implementationAt n
-implementation-of n m e i ei = rw ei (go (ltb n natives) e)
-  where
-    go : (t : Bool) → cond t (NativeIs (nativeOf n)) (NoNative NativeRange) ≡ NativeIs m
-        → implementation m ≡ cond t (implementation (nativeOf n)) (NoInstructions NativeRange)
-    go true e = let f : nativeOf n ≡ m = cc in rw f
-    go false e = cc
+implementation-of n m e i ei = let p = native-some n m e in rw (ei, p .0, p .1)
 
 -- ---- all natives, in the order of the original's loops
 

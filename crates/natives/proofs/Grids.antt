@@ -14,13 +14,15 @@ use Rattle.bicycle_common.specs.Automorphisms.{component, ofPair, opposite, inv
 use Rattle.bicycle_common.specs.Ranges.{sum, listFrom, listed}
 use Rattle.bicycle_common.proofs.Letters.{digit-x, digit-z}
 use Rattle.bicycle_common.proofs.Ranges.{lt-or-ge}
+use Rattle.pauli_string.specs.Strings.{bit}
 use Rattle.native_measurement.specs.Natives.{natives, letterOf, nativeOf, basesAt}
-use Rattle.measurement.specs.Matrices.{side, Matrix, ofRows, ofBytes, one, mul, pow, Same}
+use Rattle.measurement.specs.Matrices.{side, Matrix, ofRows, ofBytes, one, mul, pow, Binary, Same}
 use Rattle.measurement.specs.Measures.{action, packed, placed, placedBy, measured, nativeString}
-use Rattle.measurement.proofs.Matrices.{mul-binary, one-binary, pow-binary, mul-same, action-same, packed-same}
+use Rattle.measurement.proofs.Matrices.{mul-binary, one-binary, pow-binary, mul-same, action-same, packed-same, packed-lt}
+use Rattle.measurement.proofs.Letters.{bit-packed}
 use Rattle.measurement.proofs.Algebra.{one-left, one-right}
 use Rattle.natives.specs.Arrays.{at}
-use Rattle.natives.specs.Packed.{iterated, ofRowWords, ofColumnWords, Words, cell, Cells, SmallCells, wordString, gridString, Upto, Block}
+use Rattle.natives.specs.Packed.{iterated, ofRowWords, ofColumnWords, Words, wordAt, Lines, cell, Cells, SmallCells, wordString, gridString, Upto, Block}
 use Rattle.natives.proofs.Words.{iterated-lt, row-iterated, column-iterated}
 
 -- ---- cells are words
@@ -131,19 +133,54 @@ module _ (a b : Matrix) (rx ry cx cy : List ℕ) (w : WordsOf a b rx ry cx cy) w
       (hr (n / 15 / 6) (n / 15 % 6) (omega arith) (omega arith))
       ∙ cell-native n h
 
--- ---- six bytes, and the digits of two letters
+-- ---- words of bytes, and the digits of two letters
 
-six-listed : (f : ℕ → ℕ) (a : ℕ) → a ≡ f 0 → (a ∷ f 1 ∷ f 2 ∷ f 3 ∷ f 4 ∷ f 5 ∷ []) ≡ listed f side
+pub word-bytes : (line step : ℕ) (m : List ℕ) (k : ℕ)
+    → (at m (line * k) ∷ at m (line * k + step) ∷ at m (line * k + 2 * step) ∷ at m (line * k + 3 * step) ∷ at m (line * k + 4 * step) ∷ at m (line * k + 5 * step) ∷ [])
+    ≡ listed (λ (j : ℕ). at m (line * k + step * j)) side
 unfolding listFrom
-six-listed f a e = ap (λ (x : ℕ). x ∷ f 1 ∷ f 2 ∷ f 3 ∷ f 4 ∷ f 5 ∷ []) e
+word-bytes line step m k =
+    let e0 : line * k + step * 0 ≡ line * k = omega arith in
+    let e1 : line * k + step * 1 ≡ line * k + step = omega arith in
+    let e2 : line * k + step * 2 ≡ line * k + 2 * step = omega arith in
+    let e3 : line * k + step * 3 ≡ line * k + 3 * step = omega arith in
+    let e4 : line * k + step * 4 ≡ line * k + 4 * step = omega arith in
+    let e5 : line * k + step * 5 ≡ line * k + 5 * step = omega arith in
+    rw (e0, e1, e2, e3, e4, e5)
 
-pub row-bytes : (m : List ℕ) (i : ℕ)
-    → (at m (6 * i) ∷ at m (6 * i + 1) ∷ at m (6 * i + 2) ∷ at m (6 * i + 3) ∷ at m (6 * i + 4) ∷ at m (6 * i + 5) ∷ []) ≡ listed (ofBytes side m i) side
-row-bytes m i = let e : 6 * i ≡ 6 * i + 0 = omega arith in six-listed (ofBytes 6 m i) (at m (6 * i)) (ap (at m) e)
+-- words are rows, or columns, of a matrix of which f k gives the numbers of word k
+module _ (f : ℕ → ℕ → ℕ) (h : (k j : ℕ) → k < 6 → j < 6 → f k j ≤ 1) (r : List ℕ) (e : (k : ℕ) → k < 6 → at r k ≡ packed 6 (f k)) where
+  pub words-lt : Words r
+  words-lt k l = rw (e k l) (packed-lt 6 (f k) (λ j q. h k j l q))
 
-pub column-bytes : (m : List ℕ) (j : ℕ)
-    → (at m j ∷ at m (6 + j) ∷ at m (12 + j) ∷ at m (18 + j) ∷ at m (24 + j) ∷ at m (30 + j) ∷ []) ≡ listed (λ (i : ℕ). ofBytes side m i j) side
-column-bytes m j = let e : j ≡ 6 * 0 + j = omega arith in six-listed (λ (i : ℕ). ofBytes 6 m i j) (at m j) (ap (at m) e)
+  pub words-bit : (k j : ℕ) → k < 6 → j < 6 → bit (at r k) j ≡ f k j
+  words-bit k j l q = ap (λ (n : ℕ). bit n j) (e k l) ∙ bit-packed 6 (f k) (λ i p. h k i l p) j q
+
+row-place : (k j : ℕ) → 6 * k + 1 * j ≡ 6 * k + j
+row-place k j = omega arith
+
+column-place : (k j : ℕ) → 1 * k + 6 * j ≡ 6 * j + k
+column-place k j = omega arith
+
+module _ (m : List ℕ) (n : length m ≡ 36) (b : Binary 6 (ofBytes 6 m)) where
+  pub row-lines : Lines 6 1 m
+  row-lines k j hk hj = (omega arith, rw (row-place k j) (b k j hk hj))
+
+  pub column-lines : Lines 1 6 m
+  column-lines k j hk hj = (omega arith, rw (column-place k j) (b j k hj hk))
+
+  module _ (r : List ℕ) where
+    pub rows-are : ((k : ℕ) → k < 6 → at r k ≡ wordAt 6 1 m k) → Words r × Same 6 (ofRowWords r) (ofBytes 6 m)
+    rows-are e =
+        let f : (k : ℕ) → k < 6 → at r k ≡ packed 6 (ofBytes 6 m k) = λ k l. e k l ∙ packed-same 6 (λ j q. ap (at m) (row-place k j)) in
+        (words-lt (ofBytes 6 m) b r f, words-bit (ofBytes 6 m) b r f)
+
+    pub columns-are : ((k : ℕ) → k < 6 → at r k ≡ wordAt 1 6 m k) → Words r × Same 6 (ofColumnWords r) (ofBytes 6 m)
+    columns-are e =
+        let g : ℕ → ℕ → ℕ = λ k j. ofBytes 6 m j k in
+        let h : (k j : ℕ) → k < 6 → j < 6 → g k j ≤ 1 = λ k j l q. b j k q l in
+        let f : (k : ℕ) → k < 6 → at r k ≡ packed 6 (g k) = λ k l. e k l ∙ packed-same 6 (λ j q. ap (at m) (column-place k j)) in
+        (words-lt g h r f, λ i k hi hk. words-bit g h r f k i hk hi)
 
 letter-digits : (r : ℕ) → r < 4 → (xOf (letterOf r) ≡ r % 2) × (zOf (letterOf r) ≡ r / 2)
 letter-digits r h = (digit-x (r % 2) (r / 2) (omega arith) (omega arith), digit-z (r % 2) (r / 2) (omega arith) (omega arith))

@@ -2,14 +2,14 @@
 -- the first row of a product is 1 taken through the rows of the factors. Assumes nothing.
 use mathlib.Core.List.{List}
 use mathlib.Core.Path.{_≡_}
-use Prim.Native.Nat.{ℕ, zero, suc, _+_, _*_, _/_, _%_, _^_, _<_}
+use Prim.Native.Nat.{ℕ, zero, suc, _+_, _*_, _/_, _%_, _^_, _<_, _≤_}
 use lib.Bits.{bitXor}
 use lib.ListN.{length}
 use Rattle.bicycle_common.specs.Automorphisms.{opposite}
 use Rattle.pauli_string.specs.Strings.{bit}
 use Rattle.native_measurement.specs.Natives.{natives, basesAt}
 use Rattle.measurement.specs.Matrices.{side, Matrix, ofRows}
-use Rattle.measurement.specs.Measures.{placedBy}
+use Rattle.measurement.specs.Measures.{packed, placedBy}
 use Rattle.natives.specs.Arrays.{at}
 
 -- f 0 xor .. xor f (n - 1)
@@ -36,6 +36,14 @@ ofColumnWords r i j = bit (at r j) i
 -- r holds words of as many digits as the side
 abbrev pub Words : List ℕ → Type 0
 Words r = (k : ℕ) → k < side → at r k < 2 ^ side
+
+-- word k of bytes, whose digit j is the byte at line * k + step * j: row k of a matrix by rows if these are 6 and 1, column k if 1 and 6
+abbrev pub wordAt : ℕ → ℕ → List ℕ → ℕ → ℕ
+wordAt line step m k = packed side (λ (j : ℕ). at m (line * k + step * j))
+
+-- all these bytes are there, and none is over 1
+abbrev pub Lines : ℕ → ℕ → List ℕ → Type 0
+Lines line step m = (k j : ℕ) → k < side → j < side → (line * k + step * j < length m) × (at m (line * k + step * j) ≤ 1)
 
 -- 1 taken through p i times, then through q j times; a grid of these; and that its cells are words
 unfoldable pub cell : List ℕ → List ℕ → ℕ → ℕ → ℕ

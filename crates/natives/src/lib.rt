@@ -17,10 +17,9 @@ ghost use lib.ListN.{getD, length};
 ghost use Rattle.bicycle_common.specs.Letters.{flag};
 ghost use Rattle.native_measurement.specs.Natives.{natives};
 ghost use Rattle.measurement.specs.Matrices.{side, ofBytes, isBytes, Binary, Same};
-ghost use Rattle.measurement.specs.Measures.{packed};
 ghost use Rattle.natives.specs.Kept.{kept};
 ghost use Rattle.natives.specs.Arrays.{at, strings, flags, nativesOf};
-ghost use Rattle.natives.specs.Packed.{combined, iterated, ofRowWords, ofColumnWords, Words, Cells, SmallCells, wordString, Upto, Block};
+ghost use Rattle.natives.specs.Packed.{combined, iterated, ofRowWords, ofColumnWords, Words, wordAt, Lines, Cells, SmallCells, wordString, Upto, Block};
 ghost use Rattle.natives.specs.Chains.{bucket, Next, Linked, occurrences};
 
 // The natives of a pair.
@@ -79,45 +78,48 @@ fn grid(p: [u32; 6], q: [u32; 6]) -> [[u32; 6]; 6]
     out
 }
 
-fn row_at(m: &[u8], i: usize) -> u32
-    requires { ⌜ (length (now m) ≡ side * side) × Binary side (ofBytes side (now m)) × (i < side) ⌝ }
-    ensures { λ r. ⌜ r ≡ packed side (λ (j : ℕ). ofBytes side (now (m .entry)) i j) ⌝ }
+// Word k of the bytes, whose digit j is the byte at line * k + step * j.
+fn word_at(m: &[u8], line: usize, step: usize, k: usize) -> u32
+    requires { ⌜ (length (now m) ≡ side * side) × Lines line step (now m) × (k < side) ⌝ }
+    ensures { λ r. ⌜ r ≡ wordAt line step (now (m .entry)) k ⌝ }
 {
-    let q = 6 * i;
-    measurement::packed_unchecked([m[q], m[q + 1], m[q + 2], m[q + 3], m[q + 4], m[q + 5]])
+    let q = line * k;
+    let v = [
+        m[q],
+        m[q + step],
+        m[q + 2 * step],
+        m[q + 3 * step],
+        m[q + 4 * step],
+        m[q + 5 * step],
+    ];
+    measurement::packed_unchecked(v)
 }
 
-fn column_at(m: &[u8], j: usize) -> u32
-    requires { ⌜ (length (now m) ≡ side * side) × Binary side (ofBytes side (now m)) × (j < side) ⌝ }
-    ensures { λ r. ⌜ r ≡ packed side (λ (i : ℕ). ofBytes side (now (m .entry)) i j) ⌝ }
+fn words_of(m: &[u8], line: usize, step: usize) -> [u32; 6]
+    requires { ⌜ (length (now m) ≡ side * side) × Lines line step (now m) ⌝ }
+    ensures { λ r. ⌜ ((k : ℕ) → k < side → at r k ≡ wordAt line step (now (m .entry)) k) ⌝ }
 {
-    measurement::packed_unchecked([m[j], m[6 + j], m[12 + j], m[18 + j], m[24 + j], m[30 + j]])
+    let mut out = [0u32; 6];
+    let mut k: usize = 0;
+    while k < 6 {
+        out[k] = word_at(m, line, step, k);
+        k += 1;
+    }
+    out
 }
 
 fn rows_of(m: &[u8]) -> [u32; 6]
     requires { ⌜ (length (now m) ≡ side * side) × Binary side (ofBytes side (now m)) ⌝ }
     ensures { λ r. ⌜ Words r × Same side (ofRowWords r) (ofBytes side (now (m .entry))) ⌝ }
 {
-    let mut out = [0u32; 6];
-    let mut i: usize = 0;
-    while i < 6 {
-        out[i] = row_at(m, i);
-        i += 1;
-    }
-    out
+    words_of(m, 6, 1)
 }
 
 fn columns_of(m: &[u8]) -> [u32; 6]
     requires { ⌜ (length (now m) ≡ side * side) × Binary side (ofBytes side (now m)) ⌝ }
     ensures { λ r. ⌜ Words r × Same side (ofColumnWords r) (ofBytes side (now (m .entry))) ⌝ }
 {
-    let mut out = [0u32; 6];
-    let mut j: usize = 0;
-    while j < 6 {
-        out[j] = column_at(m, j);
-        j += 1;
-    }
-    out
+    words_of(m, 1, 6)
 }
 
 // ---- the strings
