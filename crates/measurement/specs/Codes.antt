@@ -1,5 +1,5 @@
 -- The matrix pairs of the gross and the two-gross code, by rows, as in the original. Assumes nothing.
-use mathlib.Core.List.{List, map}
+use mathlib.Core.List.{List, [], _∷_, map, flatMap}
 use Prim.Native.Nat.{ℕ, _-_}
 use Prim.Native.Char.{code}
 use Prim.Native.String.{String}
@@ -17,12 +17,16 @@ pairOf mx my = record { mx = byRows side mx; my = byRows side my }
 abbrev pub digitsOf : String → List ℕ
 digitsOf s = map (λ (b : ℕ). b - code "0") (bytesOf s)
 
+-- a matrix, row by row
+abbrev rows : List String → List ℕ
+rows l = flatMap digitsOf l
+
 abbrev pub codePair : MeasurementChoices → CodeMeasurement
 codePair Gross = record {
-  mx = digitsOf "010100010001001100110110010010111101";
-  my = digitsOf "100001111001000010010000011001001101";
+  mx = rows ("010100" ∷ "010001" ∷ "001100" ∷ "110110" ∷ "010010" ∷ "111101" ∷ []);
+  my = rows ("100001" ∷ "111001" ∷ "000010" ∷ "010000" ∷ "011001" ∷ "001101" ∷ []);
 }
 codePair TwoGross = record {
-  mx = digitsOf "011101101011101010101111011111100110";
-  my = digitsOf "111110110111011000100010100111100001";
+  mx = rows ("011101" ∷ "101011" ∷ "101010" ∷ "101111" ∷ "011111" ∷ "100110" ∷ []);
+  my = rows ("111110" ∷ "110111" ∷ "011000" ∷ "100010" ∷ "100111" ∷ "100001" ∷ []);
 }

@@ -18,7 +18,7 @@ use native_measurement::NativeNumber;
 use pauli_string::PauliString;
 use pauli_string::StringAnswer;
 ghost use mathlib.Core.Path.{_≡_};
-ghost use Prim.Native.Nat.{ℕ, _+_, _*_, _/_, _%_, _<_, _≤_};
+ghost use Prim.Native.Nat.{ℕ, _*_, _^_, _<_, _≤_};
 ghost use lib.ListN.{getD, length};
 ghost use Rattle.bicycle_common.specs.Ranges.{listed};
 ghost use Rattle.bicycle_common.specs.Letters.{xOf, zOf};
@@ -108,6 +108,7 @@ fn dot(a: [[u8; 6]; 6], b: [[u8; 6]; 6], i: usize, k: usize) -> u8
     acc % 2
 }
 
+// Row i of the product.
 fn product_row(a: [[u8; 6]; 6], b: [[u8; 6]; 6], i: usize) -> [u8; 6]
     requires { ⌜ i < side ⌝ }
     requires { ⌜ Binary side (ofRows a) × Binary side (ofRows b) ⌝ }
@@ -204,6 +205,7 @@ fn flat(m: [[u8; 6]; 6]) -> [u8; 36]
     out
 }
 
+// Row i of the bytes.
 fn row_of(b: &[u8], i: usize) -> [u8; 6]
     requires { ⌜ (length (now b) ≡ side * side) × (i < side) ⌝ }
     ensures { λ r. ⌜ ((k : ℕ) → k < side → getD r k 0 ≡ ofBytes side (now (b .entry)) i k) ⌝ }
@@ -266,7 +268,7 @@ pub fn packed_unchecked(v: [u8; 6]) -> u32
 // The string whose X letters place the column c and whose Z letters place the row r. Letter 1 has the digits x1 and z1,
 // letter 7 has x7 and z7.
 pub fn place_unchecked(c: u32, r: u32, x1: u32, z1: u32, x7: u32, z7: u32) -> u32
-    requires { ⌜ (c < 64) × (r < 64) × (x1 ≤ 1) × (z1 ≤ 1) × (x7 ≤ 1) × (z7 ≤ 1) ⌝ }
+    requires { ⌜ (c < 2 ^ side) × (r < 2 ^ side) × (x1 ≤ 1) × (z1 ≤ 1) × (x7 ≤ 1) × (z7 ≤ 1) ⌝ }
     ensures { λ s. ⌜ s ≡ placed side c r x1 z1 x7 z7 ⌝ }
 {
     c * (x1 + 64 * x7) + 4096 * (r * (z1 + 64 * z7))
@@ -284,8 +286,9 @@ fn z_of(p: Pauli) -> u32
     p.has_z() as u32
 }
 
+// The same, by the two letters.
 fn place_bases(c: u32, r: u32, bases: TwoBases) -> u32
-    requires { ⌜ (c < 64) × (r < 64) ⌝ }
+    requires { ⌜ (c < 2 ^ side) × (r < 2 ^ side) ⌝ }
     ensures { λ s. ⌜ s ≡ placedBy side c r bases ⌝ }
 {
     let p1 = bases.get_basis_1();
@@ -311,6 +314,7 @@ fn string_of(mx: [[u8; 6]; 6], my: [[u8; 6]; 6], native: NativeMeasurement) -> u
     place_bases(map_x, map_z, bases)
 }
 
+// Whether no number of the matrix is over 1.
 fn is_binary(m: [[u8; 6]; 6]) -> bool
     ensures { λ r. ⌜ r ≡ isBinary side (ofRows m) ⌝ }
 {

@@ -11,7 +11,7 @@
 use measurement::CodeMeasurement;
 ghost use mathlib.Core.Path.{_≡_};
 ghost use mathlib.Core.Bool.{true};
-ghost use Prim.Native.Nat.{ℕ, _+_, _-_, _*_, _<_, _≤_};
+ghost use Prim.Native.Nat.{ℕ, _+_, _-_, _*_, _^_, _<_, _≤_};
 ghost use lib.Dec.{eqb};
 ghost use lib.ListN.{getD, length};
 ghost use Rattle.bicycle_common.specs.Letters.{flag};
@@ -126,7 +126,7 @@ fn columns_of(m: &[u8]) -> [u32; 6]
 
 // The string of pair k of letters, of which c is the column and w the row.
 fn place(c: u32, w: u32, k: u32) -> u32
-    requires { ⌜ (c < 64) × (w < 64) × (k < 15) ⌝ }
+    requires { ⌜ (c < 2 ^ side) × (w < 2 ^ side) × (k < 15) ⌝ }
     ensures { λ r. ⌜ r ≡ wordString c w k ⌝ }
 {
     let l1 = (k + 1) / 4;
@@ -136,7 +136,7 @@ fn place(c: u32, w: u32, k: u32) -> u32
 
 // The fifteen strings of automorphism a, of which c is the column and w the row.
 fn block(c: u32, w: u32, a: usize, out: &mut [u32])
-    requires { ⌜ (c < 64) × (w < 64) × (a < 36) × (length (now out) ≡ natives) ⌝ }
+    requires { ⌜ (c < 2 ^ side) × (w < 2 ^ side) × (a < 36) × (length (now out) ≡ natives) ⌝ }
     ensures { λ r. ⌜ Block c w a (now (out .entry)) (now (out .exit)) ⌝ }
 {
     let mut k: u32 = 0;

@@ -1,4 +1,5 @@
 use borrow.Author.Needs.{needs}
+use mathlib.Core.List.{flatMap}
 use mathlib.Core.Path.{sym, ap, _∙_}
 use Rattle.bicycle_common.specs.Ranges.{listFrom}
 use Rattle.measurement.specs.Codes.{codePair}
@@ -18,11 +19,11 @@ new-requires-2 : tie.Need-new-requires-2
 new-requires-2 c κs = search needs
 
 returns : tie.Need-returns
-unfolding listFrom
+unfolding listFrom flatMap
 returns c = c .new .ensures ∙ sym (ap codePair (c .before .enum-told .given .1))
 
 returns-2 : tie.Need-returns-2
-unfolding listFrom
+unfolding listFrom flatMap
 returns-2 c = c .new2 .ensures ∙ sym (ap codePair (c .before .enum-told2 .given .1))
 
 pub measurement-spec : {M : Type 1} → statement M
