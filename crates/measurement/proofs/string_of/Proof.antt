@@ -23,11 +23,14 @@ packed-unchecked-requires-2 : tie.Need-packed-unchecked-requires-2
 packed-unchecked-requires-2 c κs = listed-le 6 _ _ (c .first-row .ensures) (λ j h. action-binary 6 _ _ _ 0 j (omega arith) h)
 
 place-bases-requires : tie.Need-place-bases-requires
-place-bases-requires c κs = (
-  packed-listed-lt 6 _ _ _ (c .before .before .before .first-column .ensures) (λ i h. action-binary 6 _ _ _ i 0 h (omega arith))
-      (c .before .before .packed-unchecked .ensures),
-  packed-listed-lt 6 _ _ _ (c .before .first-row .ensures) (λ j h. action-binary 6 _ _ _ 0 j (omega arith) h) (c .packed-unchecked2 .ensures),
-)
+place-bases-requires c κs =
+    let x =
+    packed-listed-lt 6 _ _ _ (c .before .before .before .first-column .ensures) (λ i h. action-binary 6 _ _ _ i 0 h (omega arith))
+    (c .before .before .packed-unchecked .ensures)
+    in
+    let z =
+    packed-listed-lt 6 _ _ _ (c .before .first-row .ensures) (λ j h. action-binary 6 _ _ _ 0 j (omega arith) h) (c .packed-unchecked2 .ensures)
+    in search needs
 
 returns : tie.Need-returns
 returns c =
