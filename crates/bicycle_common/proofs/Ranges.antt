@@ -1,17 +1,16 @@
 -- Laws of sums, tests and lists over the numbers below a bound. Assumes nothing.
 use mathlib.Core.Path.{_≡_, refl, sym, ap, ap₂, subst, _∙_}
 use mathlib.Core.Logic.{⊎-elim, _⊎_, inl, inr}
-use mathlib.Core.Bool.{Bool, true, false, _&&_}
+use mathlib.Core.Bool.{Bool, true, false, _&&_, and-false}
 use mathlib.Core.List.{List, [], _∷_}
 use Prim.Native.Nat.{ℕ, zero, suc, _+_, _<_, _≤_, suc-le-suc}
 use native.Mathlib.Nat.{not-suc-le-zero, le-of-suc-le-suc, eq-or-lt-of-le, zero-lt-suc, add-zero, add-suc, suc-add, zero-add}
 use native.Mathlib.Numerals.{add-one}
 use native.Mathlib.Omega.{arith}
-use lib.Dec.{T, ltb}
+use lib.Dec.{T, eqb, ltb}
 use lib.ListN.{length, getD, set}
 use lib.Seq.{getD-set-same, getD-set-other}
-use borrow.Author.Count.{below-more}
-use borrow.Author.Tests.{ltb-true, ltb-false}
+use borrow.Author.Tests.{ltb-true, ltb-false, eqb-true, eqb-false}
 use Rattle.bicycle_common.specs.Ranges.{sum, allBelow, listFrom, listed}
 use Rattle.bicycle_common.proofs.Tests.{left, right}
 
@@ -77,17 +76,13 @@ unfolding allBelow
 all-true zero f h = refl
 all-true (suc n) f h = rw (h n (omega arith)) (all-true n f (λ j l. h j (omega arith)))
 
-and-false : (a b : Bool) → b ≡ false → (a && b) ≡ false
-and-false true b e = e
-and-false false b e = refl
-
 pub all-false : (n : ℕ) (f : ℕ → Bool) (j : ℕ) → j < n → f j ≡ false → allBelow n f ≡ false
 unfolding allBelow
 all-false zero f j h e = absurd (not-suc-le-zero h)
 all-false (suc n) f j h e =
     ⊎-elim
     (λ (q : j ≡ n). rw (← q, e))
-    (λ (q : j < n). and-false (f n) (allBelow n f) (all-false n f j q e))
+    (λ (q : j < n). ap (λ (b : Bool). f n && b) (all-false n f j q e) ∙ and-false (f n))
     (eq-or-lt-of-le (le-of-suc-le-suc h))
 
 pub all-same : (n : ℕ) (f g : ℕ → Bool) → ((j : ℕ) → j < n → f j ≡ g j) → allBelow n f ≡ allBelow n g
@@ -126,10 +121,16 @@ module _ {A : Type 0} where
   pub listed-all : (f : ℕ → A) (d : A) (l : List A) (n : ℕ) → length l ≡ n → ((j : ℕ) → j < n → getD l j d ≡ f j) → l ≡ listed f n
   listed-all f d l n e h = from-all f d l 0 n e (λ j q. h j q ∙ ap f (sym (zero-add j)))
 
+  -- what a place holds after a store at k
+  pub stored-at : (P : A → Type 0) (l : List A) (d : A) (j k : ℕ) (v : A) → k < length l → (j ≡ k → P v) → ((j ≡ k → ⊥) → P (getD l j d))
+      → P (getD (set l k v) j d)
+  stored-at P l d j k v hk here other = go (eqb j k) refl
+    where
+      go : (b : Bool) → eqb j k ≡ b → P (getD (set l k v) j d)
+      go true e = let q = eqb-true j k e in rw (q, getD-set-same l k v d hk) (here q)
+      go false e = let q = eqb-false j k e in rw (getD-set-other l k j v d q) (other q)
+
   -- a list that is filled from the front: what holds at each place below k holds below k + 1 after the store at k
   pub stored-more : (P : ℕ → A → Type 0) (l : List A) (d : A) (k : ℕ) (v : A) → k < length l
       → ((t : ℕ) → t < k → P t (getD l t d)) → P k v → (t : ℕ) → t < k + 1 → P t (getD (set l k v) t d)
-  stored-more P l d k v hk h p =
-      below-more (λ (t : ℕ). P t (getD (set l k v) t d)) k
-      (λ t lt. rw (getD-set-other l k t v d (λ e. omega arith)) (h t lt))
-      (rw (getD-set-same l k v d hk) p)
+  stored-more P l d k v hk h p t ht = stored-at (P t) l d t k v hk (λ e. rw e p) (λ e. h t (omega arith))

@@ -6,7 +6,6 @@ use Prim.Native.Nat.{ℕ, zero, suc, _+_, _*_, _/_, _%_, _^_, _<_, _≤_}
 use native.Mathlib.Nat.{add-comm, mul-comm, mul-assoc, mul-add, mul-le-mul, mod-eq-of-lt, eq-or-lt-of-le}
 use native.Mathlib.Omega.{arith}
 use lib.Pow.{high, low, pow-add}
-use Rattle.bicycle_common.specs.declared.Pauli.{Pauli}
 use Rattle.bicycle_common.specs.Letters.{xOf, zOf, letter}
 use Rattle.bicycle_common.specs.Automorphisms.{inverse}
 use Rattle.bicycle_common.specs.Ranges.{sum}
@@ -14,7 +13,7 @@ use Rattle.pauli_string.specs.Strings.{bit, letterAt}
 use Rattle.pauli_string.proofs.Digits.{bit-zero, bit-high, bit-low}
 use Rattle.native_measurement.specs.declared.NativeMeasurement.{NativeMeasurement}
 use Rattle.measurement.specs.Matrices.{Matrix}
-use Rattle.measurement.specs.Measures.{action, packed, firstColumn, firstRow, placed, measured}
+use Rattle.measurement.specs.Measures.{action, packed, firstColumn, firstRow, placed, measured, spread}
 use Rattle.measurement.proofs.Matrices.{packed-lt, action-binary}
 use Rattle.measurement.proofs.Strings.{x-le, z-le, half-lt, column-lt, row-lt}
 
@@ -117,18 +116,14 @@ module _ (s : ℕ) (z : 0 < s) (a b : Matrix) (m : NativeMeasurement) where
   row-digit : (j : ℕ) → j < s → bit (firstRow s (action s a b (m .automorphism))) j ≡ action s a b (m .automorphism) 0 j
   row-digit j h = bit-packed s _ (λ k hk. action-binary s a b (m .automorphism) 0 k z hk) j h
 
-  -- the letter that p puts on place i of its half
-  abbrev pub onPlace : Pauli → ℕ → Pauli
-  onPlace p i = letter (xOf p * action s a b (inverse (m .automorphism)) i 0) (zOf p * action s a b (m .automorphism) 0 i)
-
-  pub measured-first : (i : ℕ) → i < s → letterAt (2 * s) (measured s a b m) i ≡ onPlace (m .logical .p1) i
+  pub measured-first : (i : ℕ) → i < s → letterAt (2 * s) (measured s a b m) i ≡ spread s a b m (m .logical .p1) i
   unfolding measured
   measured-first i h =
       placed-first s _ _ _ _ _ _ (column-lt s z a b m) (row-lt s z a b m)
       (x-le (m .logical .p1) refl) (z-le (m .logical .p1) refl) (x-le (m .logical .p7) refl) (z-le (m .logical .p7) refl) i h
       ∙ ap₂ (λ (u v : ℕ). letter (xOf (m .logical .p1) * u) (zOf (m .logical .p1) * v)) (column-digit i h) (row-digit i h)
 
-  pub measured-last : (i : ℕ) → i < s → letterAt (2 * s) (measured s a b m) (s + i) ≡ onPlace (m .logical .p7) i
+  pub measured-last : (i : ℕ) → i < s → letterAt (2 * s) (measured s a b m) (s + i) ≡ spread s a b m (m .logical .p7) i
   unfolding measured
   measured-last i h =
       placed-last s _ _ _ _ _ _ (column-lt s z a b m) (row-lt s z a b m)

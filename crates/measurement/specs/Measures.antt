@@ -1,9 +1,10 @@
 -- The string that a native measures on the code of a matrix pair, over the side s; the string has 2 * s letters. Assumes nothing.
 use Prim.Native.Nat.{ℕ, _+_, _*_, _^_}
+use Rattle.bicycle_common.specs.declared.Pauli.{Pauli}
 use Rattle.bicycle_common.specs.declared.TwoBases.{TwoBases}
 use Rattle.bicycle_common.specs.declared.AutomorphismData.{AutomorphismData}
 use Rattle.bicycle_common.specs.Ranges.{sum}
-use Rattle.bicycle_common.specs.Letters.{xOf, zOf}
+use Rattle.bicycle_common.specs.Letters.{xOf, zOf, letter}
 use Rattle.bicycle_common.specs.Automorphisms.{component, inverse}
 use Rattle.native_measurement.specs.declared.NativeMeasurement.{NativeMeasurement}
 use Rattle.native_measurement.specs.Natives.{nativeOf}
@@ -35,6 +36,10 @@ placedBy s c r b = placed s c r (xOf (b .p1)) (zOf (b .p1)) (xOf (b .p7)) (zOf (
 unfoldable pub measured : ℕ → Matrix → Matrix → NativeMeasurement → ℕ
 measured s mx my m =
     placedBy s (firstColumn s (action s mx my (inverse (m .automorphism)))) (firstRow s (action s mx my (m .automorphism))) (m .logical)
+
+-- letter by letter: what a letter p of the native puts on place i of its half
+abbrev pub spread : ℕ → Matrix → Matrix → NativeMeasurement → Pauli → ℕ → Pauli
+spread s mx my m p i = letter (xOf p * action s mx my (inverse (m .automorphism)) i 0) (zOf p * action s mx my (m .automorphism) 0 i)
 
 unfoldable pub nativeString : ℕ → Matrix → Matrix → ℕ → ℕ
 nativeString s mx my n = measured s mx my (nativeOf n)

@@ -9,10 +9,9 @@ use native.Mathlib.Nat.{eq-or-lt-of-le}
 use native.Mathlib.Omega.{arith}
 use lib.ListN.{getD, length, set, replicate, getD-replicate}
 use lib.Dec.{eqb}
-use lib.Seq.{getD-set-same, getD-set-other}
 use borrow.Author.Tests.{eqb-true, eqb-false, eq-eqb, ne-eqb}
 use Rattle.bicycle_common.specs.Letters.{flag}
-use Rattle.bicycle_common.proofs.Ranges.{lt-or-ge, sum-next, sum-le, sum-first, sum-zero, sum-pos}
+use Rattle.bicycle_common.proofs.Ranges.{lt-or-ge, stored-at, sum-next, sum-le, sum-first, sum-zero, sum-pos}
 use Rattle.bicycle_common.specs.Ranges.{sum}
 use Rattle.measurement.proofs.Matrices.{flag-le}
 use Rattle.native_measurement.specs.Natives.{natives}
@@ -26,11 +25,7 @@ use Rattle.natives.proofs.Kept.{not-kept, kept-complete}
 -- a list that is filled from the back
 pub stored-down : {A : Type 0} (P : ℕ → A → Type 0) (l : List A) (d : A) (k : ℕ) (v : A) → k < length l
     → ((t : ℕ) → k + 1 ≤ t → t < natives → P t (getD l t d)) → P k v → (t : ℕ) → k ≤ t → t < natives → P t (getD (set l k v) t d)
-stored-down P l d k v hk h p t lo hi =
-    ⊎-elim
-    (λ (e : k ≡ t). rw (← e, getD-set-same l k v d hk) p)
-    (λ (q : k < t). rw (getD-set-other l k t v d (λ e. omega arith)) (h t (omega arith) hi))
-    (eq-or-lt-of-le lo)
+stored-down P l d k v hk h p t lo hi = stored-at (P t) l d t k v hk (λ e. rw e p) (λ e. h t (omega arith) hi)
 
 next-self : (f : ℕ → ℕ) (k : ℕ) → k < natives → Next f (f k) k k
 next-self f k h = record { low = omega arith; high = omega arith; none = λ m a b e. omega arith; meets = λ l. refl }
@@ -43,14 +38,9 @@ next-down f h k x ne p = record {
   meets = p .meets;
 }
 
-at-head : (f : ℕ → ℕ) (head : List ℕ) (k h : ℕ) (b : Bool) → eqb (f k) h ≡ b → f k < length head → k < natives → Next f h (k + 1) (at head h)
-    → Next f h k (getD (set head (f k) k) h 0)
-at-head f head k h true e l hk p = rw (← eqb-true (f k) h e, getD-set-same head (f k) k 0 l) (next-self f k hk)
-at-head f head k h false e l hk p =
-    rw (getD-set-other head (f k) h k 0 (λ q. eqb-false (f k) h e (sym q))) (next-down f h k _ (eqb-false (f k) h e) p)
-
 pub heads-more : (f : ℕ → ℕ) (head : List ℕ) (k : ℕ) → f k < length head → k < natives → Heads f head (k + 1) → Heads f (set head (f k) k) k
-heads-more f head k l hk p h hh = at-head f head k h (eqb (f k) h) refl l hk (p h hh)
+heads-more f head k l hk p h hh =
+    stored-at (λ (x : ℕ). Next f h k x) head 0 h (f k) k l (λ e. rw e (next-self f k hk)) (λ e. next-down f h k _ (λ q. e (sym q)) (p h hh))
 
 -- ---- the walk along a chain
 

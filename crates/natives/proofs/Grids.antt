@@ -5,15 +5,13 @@ use mathlib.Core.Path.{_≡_, refl, ap, ap₂, _∙_}
 use mathlib.Core.Logic.{⊎-elim}
 use Prim.Native.Nat.{ℕ, _+_, _-_, _*_, _/_, _%_, _^_, _<_, _≤_}
 use native.Mathlib.Omega.{arith}
-use lib.Seq.{getD-set-same, getD-set-other}
 use lib.ListN.{getD, length, set}
-use borrow.Author.Count.{below-more}
 use Rattle.bicycle_common.specs.declared.AutomorphismData.{AutomorphismData}
 use Rattle.bicycle_common.specs.Letters.{xOf, zOf}
 use Rattle.bicycle_common.specs.Automorphisms.{component, ofPair, opposite, inverse}
 use Rattle.bicycle_common.specs.Ranges.{sum, listFrom, listed}
 use Rattle.bicycle_common.proofs.Letters.{digit-x, digit-z}
-use Rattle.bicycle_common.proofs.Ranges.{lt-or-ge}
+use Rattle.bicycle_common.proofs.Ranges.{lt-or-ge, stored-at}
 use Rattle.pauli_string.specs.Strings.{bit}
 use Rattle.native_measurement.specs.Natives.{natives, letterOf, nativeOf, basesAt}
 use Rattle.measurement.specs.Matrices.{side, Matrix, ofRows, ofBytes, one, mul, pow, Binary, Same}
@@ -197,10 +195,8 @@ place-digits c w k h =
 -- what is written at each place from b on
 pub stored-from : {A : Type 0} (P : ℕ → A → Type 0) (l : List A) (d : A) (b k : ℕ) (v : A) → b + k < length l
     → ((t : ℕ) → t < k → P t (getD l (b + t) d)) → P k v → (t : ℕ) → t < k + 1 → P t (getD (set l (b + k) v) (b + t) d)
-stored-from P l d b k v hk h p =
-    below-more (λ (t : ℕ). P t (getD (set l (b + k) v) (b + t) d)) k
-    (λ t lt. rw (getD-set-other l (b + k) (b + t) v d (λ e. omega arith)) (h t lt))
-    (rw (getD-set-same l (b + k) v d hk) p)
+stored-from P l d b k v hk h p t ht =
+    stored-at (P t) l d (b + t) (b + k) v hk (λ e. let q : t ≡ k = omega arith in rw q p) (λ e. h t (omega arith))
 
 split-15 : (n a : ℕ) → 15 * a ≤ n → n < 15 * (a + 1) → (n / 15 ≡ a) × (n % 15 ≡ n - 15 * a)
 split-15 n a h k = (omega arith, omega arith)

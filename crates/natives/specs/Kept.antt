@@ -10,9 +10,9 @@ use Rattle.native_measurement.specs.Natives.{natives}
 abbrev pub beats : (ℕ → ℕ) → ℕ → ℕ → Bool
 beats f m n = ltb n m && eqb (f m) (f n)
 
--- native n is kept when no native beats it
+-- by a rule of who beats whom, native n is kept when no native beats it
 unfoldable pub keptBy : (ℕ → ℕ → Bool) → ℕ → Bool
-keptBy beats n = allBelow natives (λ (m : ℕ). not (beats m n))
+keptBy rule n = allBelow natives (λ (m : ℕ). not (rule m n))
 
 abbrev pub kept : (ℕ → ℕ) → ℕ → Bool
 kept f = keptBy (beats f)
