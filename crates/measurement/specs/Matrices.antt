@@ -29,7 +29,7 @@ byRows s m = listed (λ (q : ℕ). ofRows m (q / s) (q % s)) (s * s)
 abbrev pub ofBytes : ℕ → List ℕ → Matrix
 ofBytes s m i j = getD m (s * i + j) 0
 
--- ---- products and powers
+-- ---- the identity, products and powers, modulo 2
 
 unfoldable pub one : Matrix
 one i k = flag (eqb i k)
@@ -47,14 +47,14 @@ pow s m (suc n) = mul s (pow s m n) m
 unfoldable pub isBinary : ℕ → Matrix → Bool
 isBinary s m = allBelow s (λ (i : ℕ). allBelow s (λ (k : ℕ). leb (m i k) 1))
 
--- bytes hold a matrix of zeros and ones: there are s * s of them, and none is over 1
-abbrev pub isBytes : ℕ → List ℕ → Bool
-isBytes s m = eqb (length m) (s * s) && isBinary s (ofBytes s m)
-
 -- the same, as a statement
 abbrev pub Binary : ℕ → Matrix → Type 0
 Binary s m = (i k : ℕ) → i < s → k < s → m i k ≤ 1
 
--- the two agree below the side
+-- bytes hold a matrix of zeros and ones: there are s * s of them, and none is over 1
+abbrev pub isBytes : ℕ → List ℕ → Bool
+isBytes s m = eqb (length m) (s * s) && isBinary s (ofBytes s m)
+
+-- two matrices agree below the side
 abbrev pub Same : ℕ → Matrix → Matrix → Type 0
 Same s a b = (i k : ℕ) → i < s → k < s → a i k ≡ b i k

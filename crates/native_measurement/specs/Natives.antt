@@ -33,7 +33,7 @@ nativeOf n = record { logical = basesAt (n % 15); automorphism = automorphismAt 
 
 -- ---- and back
 
--- k, which is 0 of (I,I) too, a pair that no `TwoBases` is
+-- the number k of two bases; 0 also for (I,I), which no `TwoBases` is
 abbrev pub pairOf : TwoBases → ℕ
 pairOf b = 4 * rank (b .p1) + rank (b .p7) - 1
 
