@@ -44,11 +44,11 @@ unfolding sum
 sum-first zero f = omega arith
 sum-first (suc n) f = omega (arith, sum-first n f)
 
-pub sum-zero : (n : ℕ) (f : ℕ → ℕ) → sum n f ≡ 0 → (j : ℕ) → j < n → f j ≡ 0
+pub sum-terms-zero : (n : ℕ) (f : ℕ → ℕ) → sum n f ≡ 0 → (j : ℕ) → j < n → f j ≡ 0
 unfolding sum
-sum-zero zero f e j h = absurd (not-suc-le-zero h)
-sum-zero (suc n) f e j h =
-    ⊎-elim (λ (q : j ≡ n). rw q (omega arith)) (λ (q : j < n). sum-zero n f (omega arith) j q) (eq-or-lt-of-le (le-of-suc-le-suc h))
+sum-terms-zero zero f e j h = absurd (not-suc-le-zero h)
+sum-terms-zero (suc n) f e j h =
+    ⊎-elim (λ (q : j ≡ n). rw q (omega arith)) (λ (q : j < n). sum-terms-zero n f (omega arith) j q) (eq-or-lt-of-le (le-of-suc-le-suc h))
 
 -- a sum over 0 has a term over 0
 pub sum-pos : (n : ℕ) (f : ℕ → ℕ) → 0 < sum n f → (j : ℕ) × (j < n) × (0 < f j)

@@ -1,11 +1,13 @@
--- The product modulo 2 is associative, `one` is its unit, and a power grows on either side. By sums, term by term. Assumes nothing.
+-- The product modulo 2 is associative, `one` is its unit, a power grows on either side, and the transpose
+-- of a product has the last factor first. By sums, term by term. Assumes nothing.
+use mathlib.Core.Bool.{Bool, true, false}
 use mathlib.Core.Path.{_≡_, refl, sym, ap, _∙_}
 use Prim.Native.Nat.{ℕ, zero, suc, _+_, _*_, _/_, _%_, _<_}
 use native.Mathlib.Nat.{mod-add-div, add-mul, mul-add, mul-assoc, mul-comm, eq-or-lt-of-le}
 use native.Mathlib.Omega.{arith}
 use mathlib.Core.Logic.{⊎-elim}
 use lib.Dec.{eqb}
-use borrow.Author.Tests.{eq-eqb, ne-eqb}
+use borrow.Author.Tests.{eq-eqb, ne-eqb, eqb-true, eqb-false}
 use Rattle.bicycle_common.specs.Letters.{flag}
 use Rattle.bicycle_common.specs.Ranges.{sum}
 use Rattle.bicycle_common.proofs.Ranges.{sum-same}
@@ -97,3 +99,32 @@ unfolding pow
 pow-left s m b zero = same-trans s (one-right s m b) (same-sym s (one-left s m b))
 pow-left s m b (suc n) =
     same-trans s (same-sym s (assoc s m (pow s m n) m)) (mul-same s (pow-left s m b n) (λ i k hi hk. refl))
+
+-- ---- the transpose
+
+abbrev pub turned : Matrix → Matrix
+turned a i k = a k i
+
+one-turned : (i k : ℕ) → one i k ≡ one k i
+unfolding one
+one-turned i k = go (eqb i k) refl
+  where
+    go : (b : Bool) → eqb i k ≡ b → flag b ≡ flag (eqb k i)
+    go true e = ap flag (sym (eq-eqb k i (sym (eqb-true i k e))))
+    go false e = ap flag (sym (ne-eqb k i (λ q. eqb-false i k e (sym q))))
+
+mul-turned : (s : ℕ) (a b : Matrix) (i k : ℕ) → mul s (turned b) (turned a) i k ≡ mul s a b k i
+unfolding mul
+mul-turned s a b i k = ap (λ (t : ℕ). t % 2) (sum-same s _ _ (λ j hj. mul-comm (b j i) (a k j)))
+
+pow-turned : (s : ℕ) (m : Matrix) → Binary s m → (n : ℕ) → Same s (pow s (turned m) n) (turned (pow s m n))
+unfolding pow
+pow-turned s m b zero = λ i k hi hk. one-turned i k
+pow-turned s m b (suc n) = λ i k hi hk.
+    mul-same s (pow-turned s m b n) (λ i k hi hk. refl) i k hi hk ∙ mul-turned s m (pow s m n) i k ∙ pow-left s m b n k i hk hi
+
+-- a product of powers turns into the powers of the transposes, the last factor first
+pub product-turned : (s : ℕ) (a b : Matrix) → Binary s a → Binary s b → (x y : ℕ)
+    → Same s (mul s (pow s (turned b) y) (pow s (turned a) x)) (turned (mul s (pow s a x) (pow s b y)))
+product-turned s a b ha hb x y i k hi hk =
+    mul-same s (pow-turned s b hb y) (pow-turned s a ha x) i k hi hk ∙ mul-turned s (pow s a x) (pow s b y) i k

@@ -29,8 +29,8 @@ use Rattle.native_measurement.specs.Natives.{natives, nativeOf}
 use Rattle.native_measurement.proofs.Natives.{native-none, native-some}
 use Rattle.measurement.specs.Matrices.{Matrix, ofBytes, one, mul, pow, isBinary, isBytes, Binary, Same}
 use Rattle.measurement.specs.Measures.{action, packed, firstColumn, firstRow, placed, placedBy, measured, nativeString}
-use Rattle.measurement.specs.Answers.{measuresIf, measures, measuresBytes}
-use Rattle.measurement.proofs.Matrices.{one-binary, action-binary, is-binary, binary-same, action-same, packed-same, packed-lt}
+use Rattle.measurement.specs.Answers.{measuresIf}
+use Rattle.measurement.proofs.Matrices.{one-binary, action-binary, is-binary, action-same, packed-same, packed-lt}
 use Rattle.measurement.proofs.Algebra.{one-left}
 
 -- ---- digits that a loop has listed
@@ -152,9 +152,6 @@ native-one (suc s) z a b = native-one-suc s a b
 
 -- ---- what the calls answer
 
-pub both-true : (a b : Bool) → a ≡ true → b ≡ true → (a && b) ≡ true
-both-true a b ea eb = rw (ea, eb)
-
 module _ (s : ℕ) (mx my : Matrix) (n : ℕ) where
   pub first-bad : (a b : Bool) → a ≡ false → NoString NoMatrix ≡ measuresIf (a && b) s mx my n
   first-bad a b e = rw e
@@ -162,39 +159,26 @@ module _ (s : ℕ) (mx my : Matrix) (n : ℕ) where
   pub second-bad : (a b : Bool) → a ≡ true → b ≡ false → NoString NoMatrix ≡ measuresIf (a && b) s mx my n
   second-bad a b ea eb = rw (ea, eb)
 
-  pub no-native : (good : Bool) → good ≡ true → (r : Refusal) → nativeAt n ≡ NoNative r → NoString NativeRange ≡ measuresIf good s mx my n
-  no-native good e r h = rw (e, native-none n r h)
+  pub both-good : (a b : Bool) → a ≡ true → b ≡ true → measuresIf true s mx my n ≡ measuresIf (a && b) s mx my n
+  both-good a b ea eb = rw (ea, eb)
+
+  pub no-native : (r : Refusal) → nativeAt n ≡ NoNative r → NoString NativeRange ≡ measuresIf true s mx my n
+  no-native r h = rw (native-none n r h)
 
   string-is : (m : NativeMeasurement) → nativeOf n ≡ m → (p : ℕ) → p ≡ measured s mx my m → string p ≡ string (nativeString s mx my n)
   unfolding nativeString
   string-is m f p e = ap string (e ∙ ap (measured s mx my) (sym f))
 
-  pub the-string : (good : Bool) → good ≡ true → (m : NativeMeasurement) → nativeAt n ≡ NativeIs m → (p : ℕ) → p ≡ measured s mx my m
-      → string p ≡ measuresIf good s mx my n
-  the-string good e m h p ep = let q = native-some n m h in rw (e, q .0) (string-is m (q .1) p ep)
+  pub the-string : (m : NativeMeasurement) → nativeAt n ≡ NativeIs m → (p : ℕ) → p ≡ measured s mx my m → string p ≡ measuresIf true s mx my n
+  the-string m h p ep = let q = native-some n m h in rw (q .0) (string-is m (q .1) p ep)
 
 -- ---- rows and bytes
 
--- what is answered depends on the numbers of the matrices alone, however they are held
-pub measures-same : (s : ℕ) {a b c d : Matrix} → 0 < s → Same s a b → Same s c d → (n : ℕ) → measures s a c n ≡ measures s b d n
-measures-same s {a} {b} {c} {d} z p q n =
-    ap₂ (λ (g : Bool) (t : ℕ). cond g (cond (ltb n natives) (string t) (NoString NativeRange)) (NoString NoMatrix))
-    (ap₂ _&&_ (binary-same s p) (binary-same s q))
-    (native-same s z p q n)
-
-pub bytes-length : (s : ℕ) (m : List ℕ) → isBytes s m ≡ true → length m ≡ s * s
-bytes-length s m e = eqb-true (length m) (s * s) (and-eq-true-iff (eqb (length m) (s * s)) (isBinary s (ofBytes s m)) .0 e .0)
-
-pub bytes-binary : (s : ℕ) (m : List ℕ) → isBytes s m ≡ true → isBinary s (ofBytes s m) ≡ true
-bytes-binary s m e = and-eq-true-iff (eqb (length m) (s * s)) (isBinary s (ofBytes s m)) .0 e .1
+-- what is answered of a good pair depends on the numbers of the matrices alone, however they are held
+pub answer-same : (s : ℕ) {a b c d : Matrix} → 0 < s → Same s a b → Same s c d → (n : ℕ) → measuresIf true s a c n ≡ measuresIf true s b d n
+answer-same s z p q n = ap (λ (t : ℕ). cond (ltb n natives) (string t) (NoString NativeRange)) (native-same s z p q n)
 
 pub bytes-good : (s : ℕ) (m : List ℕ) → isBytes s m ≡ true → (length m ≡ s * s) × Binary s (ofBytes s m)
-bytes-good s m e = (bytes-length s m e, is-binary s (ofBytes s m) (bytes-binary s m e))
-
--- good bytes are answered as the matrices that they hold
-pub measures-bytes : (s : ℕ) (x y : List ℕ) (n : ℕ) → isBytes s x ≡ true → isBytes s y ≡ true
-    → measures s (ofBytes s x) (ofBytes s y) n ≡ measuresBytes s x y n
-measures-bytes s x y n ex ey =
-    ap (λ (g : Bool). measuresIf g s (ofBytes s x) (ofBytes s y) n)
-    (both-true (isBinary s (ofBytes s x)) (isBinary s (ofBytes s y)) (bytes-binary s x ex) (bytes-binary s y ey)
-    ∙ sym (both-true (isBytes s x) (isBytes s y) ex ey))
+bytes-good s m e =
+    let t = and-eq-true-iff (eqb (length m) (s * s)) (isBinary s (ofBytes s m)) .0 e in
+    (eqb-true (length m) (s * s) (t .0), is-binary s (ofBytes s m) (t .1))

@@ -18,6 +18,7 @@ use native_measurement::NativeNumber;
 use pauli_string::PauliString;
 use pauli_string::StringAnswer;
 ghost use mathlib.Core.Path.{_≡_};
+ghost use mathlib.Core.Bool.{true};
 ghost use Prim.Native.Nat.{ℕ, _*_, _^_, _<_, _≤_};
 ghost use lib.ListN.{getD, length};
 ghost use Rattle.bicycle_common.specs.Ranges.{listed};
@@ -25,7 +26,7 @@ ghost use Rattle.bicycle_common.specs.Letters.{xOf, zOf};
 ghost use Rattle.measurement.specs.Matrices.{side, ofRows, byRows, ofBytes, one, mul, pow, isBinary, isBytes, Binary, Same};
 ghost use Rattle.measurement.specs.Measures.{action, packed, placed, placedBy, measured};
 ghost use Rattle.measurement.specs.Codes.{pairOf, codePair};
-ghost use Rattle.measurement.specs.Answers.{measures, measuresBytes};
+ghost use Rattle.measurement.specs.Answers.{measuresIf, measures, measuresBytes};
 
 pub const GROSS_MX: [[u8; 6]; 6] = [
     [0, 1, 0, 1, 0, 0],
@@ -321,6 +322,17 @@ fn is_binary(m: [[u8; 6]; 6]) -> bool
     is_matrix(&flat(m))
 }
 
+// The string that native n measures on a pair of 0/1 matrices: 11.
+fn native_string(mx: [[u8; 6]; 6], my: [[u8; 6]; 6], n: NativeNumber) -> StringAnswer
+    requires { ⌜ Binary side (ofRows mx) × Binary side (ofRows my) ⌝ }
+    ensures { λ r. ⌜ r ≡ measuresIf true side (ofRows mx) (ofRows my) (n .0) ⌝ }
+{
+    let NativeAnswer::Is(native) = NativeMeasurement::from_number(n) else {
+        return StringAnswer::Refused(Refusal::NativeRange);
+    };
+    StringAnswer::Is(PauliString(string_of(mx, my, native)))
+}
+
 // The string that native n measures: 3, 11.
 pub fn measures(mx: [[u8; 6]; 6], my: [[u8; 6]; 6], n: NativeNumber) -> StringAnswer
     ensures { λ r. ⌜ r ≡ measures side (ofRows mx) (ofRows my) (n .0) ⌝ }
@@ -331,10 +343,7 @@ pub fn measures(mx: [[u8; 6]; 6], my: [[u8; 6]; 6], n: NativeNumber) -> StringAn
     if !is_binary(my) {
         return StringAnswer::Refused(Refusal::Matrix);
     }
-    let NativeAnswer::Is(native) = NativeMeasurement::from_number(n) else {
-        return StringAnswer::Refused(Refusal::NativeRange);
-    };
-    StringAnswer::Is(PauliString(string_of(mx, my, native)))
+    native_string(mx, my, n)
 }
 
 // The same, of matrices as bytes by rows: 3 also where one is not 36 long.
@@ -347,7 +356,7 @@ pub fn measures_bytes(mx: &[u8], my: &[u8], n: NativeNumber) -> StringAnswer
     if !is_matrix(my) {
         return StringAnswer::Refused(Refusal::Matrix);
     }
-    measures(of_bytes(mx), of_bytes(my), n)
+    native_string(of_bytes(mx), of_bytes(my), n)
 }
 
 impl CodeMeasurement {

@@ -22,7 +22,7 @@ use Rattle.native_measurement.specs.declared.NativeMeasurement.{NativeMe
 use Rattle.native_measurement.specs.declared.NativeAnswer.the-variants.{Is as NativeIs, Refused as NoNative}
 use Rattle.native_measurement.specs.declared.ImplementationAnswer.the-variants.{Is as Instructions, Refused as NoInstructions}
 use Rattle.native_measurement.specs.Answers.{nativeAt, implementationAt}
-use Rattle.native_measurement.specs.Natives.{natives, letterOf, nativeOf, pairOf, numberOf, allBases, all}
+use Rattle.native_measurement.specs.Natives.{natives, ofRank, nativeOf, pairNumber, numberOf, allBases, all}
 
 -- ---- places of letters
 
@@ -36,17 +36,17 @@ rank-lt Y = omega arith
 pub place-lt : {r : ℕ} (l : Pauli) → r ≡ rank l → r < 4
 place-lt l e = rw e (rank-lt l)
 
-pub pair-lt : {k : ℕ} (b : TwoBases) → k ≡ pairOf b → k < 15
+pub pair-lt : {k : ℕ} (b : TwoBases) → k ≡ pairNumber b → k < 15
 pair-lt b e = omega (arith, rank-lt (b .p1), rank-lt (b .p7))
 
-pub letter-rank : (l : Pauli) → letterOf (rank l) ≡ l
+pub letter-rank : (l : Pauli) → ofRank (rank l) ≡ l
 unfolding rank
 letter-rank I = refl
 letter-rank X = refl
 letter-rank Z = refl
 letter-rank Y = refl
 
-pub rank-letter : (r : ℕ) → r < 4 → rank (letterOf r) ≡ r
+pub rank-letter : (r : ℕ) → r < 4 → rank (ofRank r) ≡ r
 unfolding rank
 rank-letter zero h = refl
 rank-letter (suc zero) h = refl
@@ -107,8 +107,8 @@ components-back m h = omega arith
 pub number-native : (n : ℕ) → n < natives → numberOf (nativeOf n) ≡ n
 unfolding numberOf nativeOf
 number-native n h =
-    let a : rank (letterOf ((n % 15 + 1) / 4)) ≡ (n % 15 + 1) / 4 = rank-letter _ (omega arith) in
-    let b : rank (letterOf ((n % 15 + 1) % 4)) ≡ (n % 15 + 1) % 4 = rank-letter _ (omega arith) in
+    let a : rank (ofRank ((n % 15 + 1) / 4)) ≡ (n % 15 + 1) / 4 = rank-letter _ (omega arith) in
+    let b : rank (ofRank ((n % 15 + 1) % 4)) ≡ (n % 15 + 1) % 4 = rank-letter _ (omega arith) in
     let e : 15 * (n / 15) + n % 15 ≡ n = omega arith in
     ap₂ (λ (m k : ℕ). 15 * m + k) (components-back (n / 15) (omega arith)) (ap₂ (λ (r t : ℕ). 4 * r + t - 1) a b ∙ pair-back (n % 15)) ∙ e
 
@@ -149,14 +149,14 @@ module _ (p q : Pauli) where
   both-by false e = cc
 
 -- the letters of pair k + 1 are not both the identity
-pub pair-bases : (n : ℕ) (p q : Pauli) → p ≡ letterOf ((n % 15 + 1) / 4) → q ≡ letterOf ((n % 15 + 1) % 4) → basesOf p q ≡ BothIdentity → ⊥
+pub pair-bases : (n : ℕ) (p q : Pauli) → p ≡ ofRank ((n % 15 + 1) / 4) → q ≡ ofRank ((n % 15 + 1) % 4) → basesOf p q ≡ BothIdentity → ⊥
 pair-bases n p q ep eq e =
     let a : rank p ≡ (n % 15 + 1) / 4 = ap rank ep ∙ rank-letter _ (omega arith) in
     let b : rank q ≡ (n % 15 + 1) % 4 = ap rank eq ∙ rank-letter _ (omega arith) in
     let z = pair-zero p q (both-by p q (isI p && isI q) e) in
     omega arith
 
-pub native-bases : (n : ℕ) (p q : Pauli) (b : TwoBases) → p ≡ letterOf ((n % 15 + 1) / 4) → q ≡ letterOf ((n % 15 + 1) % 4) → basesOf p q ≡ Is b
+pub native-bases : (n : ℕ) (p q : Pauli) (b : TwoBases) → p ≡ ofRank ((n % 15 + 1) / 4) → q ≡ ofRank ((n % 15 + 1) % 4) → basesOf p q ≡ Is b
     → (a : AutomorphismData) → a ≡ ofPair (n / 15 / 6) (n / 15 % 6) → record { logical = b; automorphism = a } ≡ nativeOf n
 unfolding nativeOf
 native-bases n p q b ep eq e a ea = rw (← bases p q b e .1, ep, eq, ea)

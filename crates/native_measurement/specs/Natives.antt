@@ -18,12 +18,12 @@ natives = 540
 -- ---- from a number
 
 -- the letter at a place of the order I, X, Z, Y
-abbrev pub letterOf : ℕ → Pauli
-letterOf r = letter (r % 2) (r / 2)
+abbrev pub ofRank : ℕ → Pauli
+ofRank r = letter (r % 2) (r / 2)
 
 -- the 15 pairs other than (I,I), first letter slowest: the places of pair k are the digits of k + 1 to the base 4
 abbrev pub basesAt : ℕ → TwoBases
-basesAt k = record { p1 = letterOf ((k + 1) / 4); p7 = letterOf ((k + 1) % 4) }
+basesAt k = record { p1 = ofRank ((k + 1) / 4); p7 = ofRank ((k + 1) % 4) }
 
 abbrev pub automorphismAt : ℕ → AutomorphismData
 automorphismAt a = ofPair (a / 6) (a % 6)
@@ -34,16 +34,16 @@ nativeOf n = record { logical = basesAt (n % 15); automorphism = automorphismAt 
 -- ---- and back
 
 -- the number k of two bases; 0 also for (I,I), which no `TwoBases` is
-abbrev pub pairOf : TwoBases → ℕ
-pairOf b = 4 * rank (b .p1) + rank (b .p7) - 1
+abbrev pub pairNumber : TwoBases → ℕ
+pairNumber b = 4 * rank (b .p1) + rank (b .p7) - 1
 
 unfoldable pub numberOf : NativeMeasurement → ℕ
-numberOf m = 15 * (6 * component (m .automorphism .x) + component (m .automorphism .y)) + pairOf (m .logical)
+numberOf m = 15 * (6 * component (m .automorphism .x) + component (m .automorphism .y)) + pairNumber (m .logical)
 
--- ---- all of them, by the loops of the original
+-- ---- all of them, by the loops of the original, over the letters in order and over the components
 
-abbrev pub letters : List Pauli
-letters = I ∷ X ∷ Z ∷ Y ∷ []
+abbrev pub inOrder : List Pauli
+inOrder = I ∷ X ∷ Z ∷ Y ∷ []
 
 abbrev pub components : List ℕ
 components = 0 ∷ 1 ∷ 2 ∷ 3 ∷ 4 ∷ 5 ∷ []
@@ -53,7 +53,7 @@ pushed (Is b) = b ∷ []
 pushed BothIdentity = []
 
 unfoldable pub allBases : List TwoBases
-allBases = flatMap (λ (p1 : Pauli). flatMap (λ (p7 : Pauli). pushed (basesOf p1 p7)) letters) letters
+allBases = flatMap (λ (p1 : Pauli). flatMap (λ (p7 : Pauli). pushed (basesOf p1 p7)) inOrder) inOrder
 
 unfoldable pub all : List NativeMeasurement
 all =

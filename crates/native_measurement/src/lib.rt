@@ -16,7 +16,7 @@ use bicycle_common::TwoBasesAnswer;
 ghost use mathlib.Core.Path.{_≡_};
 ghost use Prim.Native.Nat.{_<_};
 ghost use Rattle.bicycle_common.specs.Letters.{rank};
-ghost use Rattle.native_measurement.specs.Natives.{letterOf, pairOf, numberOf};
+ghost use Rattle.native_measurement.specs.Natives.{ofRank, pairNumber, numberOf};
 ghost use Rattle.native_measurement.specs.Answers.{nativeAt, implementationAt};
 
 // How many natives there are.
@@ -44,9 +44,9 @@ pub enum ImplementationAnswer {
 }
 
 // The letter at a place of the order I, X, Z, Y.
-fn letter_of(place: u16) -> Pauli
+fn of_rank(place: u16) -> Pauli
     requires { ⌜ place < 4 ⌝ }
-    ensures { λ r. ⌜ r ≡ letterOf place ⌝ }
+    ensures { λ r. ⌜ r ≡ ofRank place ⌝ }
 {
     match place {
         0 => Pauli::I,
@@ -69,8 +69,8 @@ fn rank(p: Pauli) -> u16
 }
 
 // The number of two bases among the pairs of letters, which are counted from (I,X) on.
-fn pair_of(bases: TwoBases) -> u16
-    ensures { λ r. ⌜ r ≡ pairOf bases ⌝ }
+fn pair_number(bases: TwoBases) -> u16
+    ensures { λ r. ⌜ r ≡ pairNumber bases ⌝ }
 {
     let pair = 4 * rank(bases.get_basis_1()) + rank(bases.get_basis_7());
     // No two bases are (I,I)
@@ -89,8 +89,8 @@ impl NativeMeasurement {
         if i < NATIVES {
             // The pairs of letters are counted from (I,X) on
             let pair = i % 15 + 1;
-            let p1 = letter_of(pair / 4);
-            let p7 = letter_of(pair % 4);
+            let p1 = of_rank(pair / 4);
+            let p7 = of_rank(pair % 4);
             let TwoBasesAnswer::Is(logical) = TwoBases::new(p1, p7) else {
                 return NativeAnswer::Refused(Refusal::NativeRange);
             };
@@ -111,7 +111,7 @@ impl NativeMeasurement {
         let logical = self.logical;
         let automorphism = self.automorphism;
         let a = 6 * automorphism.get_x() + automorphism.get_y();
-        NativeNumber(15 * a as u16 + pair_of(logical))
+        NativeNumber(15 * a as u16 + pair_number(logical))
     }
 }
 

@@ -11,7 +11,7 @@ use lib.ListN.{getD, length, set, replicate, getD-replicate}
 use lib.Dec.{eqb}
 use borrow.Author.Tests.{eqb-true, eqb-false, eq-eqb, ne-eqb}
 use Rattle.bicycle_common.specs.Letters.{flag}
-use Rattle.bicycle_common.proofs.Ranges.{lt-or-ge, stored-at, sum-next, sum-le, sum-first, sum-zero, sum-pos}
+use Rattle.bicycle_common.proofs.Ranges.{lt-or-ge, stored-at, sum-next, sum-le, sum-first, sum-terms-zero, sum-pos}
 use Rattle.bicycle_common.specs.Ranges.{sum}
 use Rattle.measurement.proofs.Matrices.{flag-le}
 use Rattle.native_measurement.specs.Natives.{natives}
@@ -107,7 +107,7 @@ once f n k e =
     eq-eqb (sum (suc k) F) 1 (omega arith)
     ∙ sym (kept-complete f n (λ m l hm p.
     let i : n + suc (m - n - 1) ≡ m = omega arith in
-    eqb-false (f (n + suc (m - n - 1))) (f n) (flag-zero _ (sum-zero k (λ (j : ℕ). F (suc j)) (sym q) (m - n - 1) (omega arith))) (ap f i ∙ p))))
+    eqb-false (f (n + suc (m - n - 1))) (f n) (flag-zero _ (sum-terms-zero k (λ (j : ℕ). F (suc j)) (sym q) (m - n - 1) (omega arith))) (ap f i ∙ p))))
     (λ (q : 0 < rest).
     let w = sum-pos k (λ (j : ℕ). F (suc j)) q in
     let h = w .1 in

@@ -13,15 +13,15 @@ use Rattle.bicycle_common.specs.Ranges.{sum, listFrom, listed}
 use Rattle.bicycle_common.proofs.Letters.{digit-x, digit-z}
 use Rattle.bicycle_common.proofs.Ranges.{lt-or-ge, stored-at}
 use Rattle.pauli_string.specs.Strings.{bit}
-use Rattle.native_measurement.specs.Natives.{natives, letterOf, nativeOf, basesAt}
+use Rattle.native_measurement.specs.Natives.{natives, ofRank, nativeOf, basesAt}
 use Rattle.measurement.specs.Matrices.{side, Matrix, ofRows, ofBytes, one, mul, pow, Binary, Same}
 use Rattle.measurement.specs.Measures.{action, packed, placed, placedBy, measured, nativeString}
 use Rattle.measurement.proofs.Matrices.{mul-binary, one-binary, pow-binary, mul-same, action-same, packed-same, packed-lt}
 use Rattle.measurement.proofs.Letters.{bit-packed}
-use Rattle.measurement.proofs.Algebra.{one-left, one-right}
+use Rattle.measurement.proofs.Algebra.{one-left, product-turned}
 use Rattle.natives.specs.Arrays.{at}
 use Rattle.natives.specs.Packed.{iterated, ofRowWords, ofColumnWords, Words, wordAt, Lines, cell, Cells, SmallCells, wordString, gridString, Upto, Block}
-use Rattle.natives.proofs.Words.{iterated-lt, row-iterated, column-iterated}
+use Rattle.natives.proofs.Words.{bit-le, iterated-lt, row-iterated}
 
 -- ---- cells are words
 
@@ -38,10 +38,6 @@ one-row : 1 ≡ packed 6 (λ (j : ℕ). one 0 j)
 unfolding packed sum one
 one-row = refl
 
-one-column : 1 ≡ packed 6 (λ (i : ℕ). one i 0)
-unfolding packed sum one
-one-column = refl
-
 six : 0 < 6
 six = omega arith
 
@@ -57,14 +53,15 @@ row-cell p q hp hq x y =
     ∙ row-iterated 6 six (at q) hq (mul 6 one (pow 6 (ofRowWords p) x)) (mul-binary 6 one (pow 6 (ofRowWords p) x)) y
     ∙ packed-same 6 (λ j l. mul-same 6 (one-left 6 (pow 6 (ofRowWords p) x) (pow-binary 6 (ofRowWords p) x)) (λ i k hi hk. refl) 0 j six l)
 
+columns-binary : (r : List ℕ) → Binary 6 (ofColumnWords r)
+columns-binary r i k hi hk = bit-le (at r k) i
+
+-- the columns are the rows of the transpose, whose product has the last factor first
 column-cell : (p q : List ℕ) → Words p → Words q → (x y : ℕ)
     → cell q p y x ≡ packed 6 (λ (i : ℕ). act (ofColumnWords p) (ofColumnWords q) x y i 0)
-unfolding cell
 column-cell p q hp hq x y =
-    ap (λ (v : ℕ). iterated 6 (at p) (iterated 6 (at q) v y) x) one-column
-    ∙ ap (λ (v : ℕ). iterated 6 (at p) v x) (column-iterated 6 six (at q) hq one (one-binary 6) y)
-    ∙ column-iterated 6 six (at p) hp (mul 6 (pow 6 (ofColumnWords q) y) one) (mul-binary 6 (pow 6 (ofColumnWords q) y) one) x
-    ∙ packed-same 6 (λ i l. mul-same 6 (λ i k hi hk. refl) (one-right 6 (pow 6 (ofColumnWords q) y) (pow-binary 6 (ofColumnWords q) y)) i 0 l six)
+    row-cell q p hq hp y x
+    ∙ packed-same 6 (λ i l. product-turned 6 (ofColumnWords p) (ofColumnWords q) (columns-binary p) (columns-binary q) x y 0 i six l)
 
 -- ---- strings
 
@@ -180,7 +177,7 @@ module _ (m : List ℕ) (n : length m ≡ 36) (b : Binary 6 (ofBytes 6 m)) where
         let f : (k : ℕ) → k < 6 → at r k ≡ packed 6 (g k) = λ k l. e k l ∙ packed-same 6 (λ j q. ap (at m) (column-place k j)) in
         (words-lt g h r f, λ i k hi hk. words-bit g h r f k i hk hi)
 
-letter-digits : (r : ℕ) → r < 4 → (xOf (letterOf r) ≡ r % 2) × (zOf (letterOf r) ≡ r / 2)
+letter-digits : (r : ℕ) → r < 4 → (xOf (ofRank r) ≡ r % 2) × (zOf (ofRank r) ≡ r / 2)
 letter-digits r h = (digit-x (r % 2) (r / 2) (omega arith) (omega arith), digit-z (r % 2) (r / 2) (omega arith) (omega arith))
 
 pub place-digits : (c w k : ℕ) → k < 15

@@ -2,7 +2,7 @@
 -- the vector times the n-th power. Assumes nothing.
 use mathlib.Core.Path.{_≡_, refl, sym, ap, ap₂, _∙_}
 use Prim.Native.Nat.{ℕ, zero, suc, _+_, _-_, _*_, _/_, _%_, _^_, _<_, _≤_}
-use native.Mathlib.Nat.{mod-lt, mul-assoc, mod-eq-of-lt, mul-comm}
+use native.Mathlib.Nat.{mod-lt, mul-assoc, mod-eq-of-lt}
 use native.Mathlib.Numerals.{one-add}
 use native.Mathlib.Omega.{arith}
 use lib.Arith.{lt-one}
@@ -14,9 +14,9 @@ use Rattle.pauli_string.specs.Strings.{bit}
 use Rattle.pauli_string.proofs.Digits.{bit-lt}
 use Rattle.measurement.specs.Matrices.{Matrix, mul, pow, Binary}
 use Rattle.measurement.specs.Measures.{packed}
-use Rattle.measurement.proofs.Matrices.{product-le, packed-same, packed-lt, mul-binary, mul-same}
+use Rattle.measurement.proofs.Matrices.{product-le, packed-same, packed-lt, mul-binary}
 use Rattle.measurement.proofs.Letters.{packed-suc, packed-none, bit-packed}
-use Rattle.measurement.proofs.Algebra.{sum-scale, assoc, one-left, one-right, pow-left}
+use Rattle.measurement.proofs.Algebra.{sum-scale, assoc, one-right}
 use Rattle.natives.specs.Packed.{xors, combined, iterated}
 
 -- ---- digits
@@ -94,14 +94,11 @@ unfolding iterated
 iterated-lt s R v h l zero = l
 iterated-lt s R v h l (suc n) = combined-lt s R _ h
 
--- ---- the first row of a product, and its first column
+-- ---- the first row of a product
 
 module _ (s : ℕ) (z : 0 < s) (R : ℕ → ℕ) (h : (k : ℕ) → k < s → R k < 2 ^ s) where
   abbrev rowsOf : Matrix
   rowsOf i j = bit (R i) j
-
-  abbrev columnsOf : Matrix
-  columnsOf i j = bit (R j) i
 
   row-step : (A : Matrix) → Binary s A → combined s R (packed s (λ (j : ℕ). A 0 j)) ≡ packed s (λ (j : ℕ). mul s A rowsOf 0 j)
   unfolding mul
@@ -115,26 +112,3 @@ module _ (s : ℕ) (z : 0 < s) (R : ℕ → ℕ) (h : (k : ℕ) → k < s → R 
   row-iterated A b (suc n) =
       ap (combined s R) (row-iterated A b n) ∙ row-step (mul s A (pow s rowsOf n)) (mul-binary s A (pow s rowsOf n))
       ∙ packed-same s (λ j l. assoc s A (pow s rowsOf n) rowsOf 0 j z l)
-
-  column-step : (A : Matrix) → Binary s A → combined s R (packed s (λ (i : ℕ). A i 0)) ≡ packed s (λ (i : ℕ). mul s columnsOf A i 0)
-  unfolding mul
-  column-step A b =
-      combined-packed s R _ h
-      ∙ packed-same s (λ i l. ap (λ (t : ℕ). t % 2) (sum-same s _ _ (λ k q.
-      ap (λ (t : ℕ). t * bit (R k) i) (bit-packed s (λ (i : ℕ). A i 0) (λ i r. b i 0 r z) k q) ∙ mul-comm (A k 0) (bit (R k) i))))
-
-  columns-binary : Binary s columnsOf
-  columns-binary i k hi hk = bit-le (R k) i
-
-  column-start : (A : Matrix) → Binary s A → (i : ℕ) → i < s → mul s (pow s columnsOf 0) A i 0 ≡ A i 0
-  unfolding pow
-  column-start A b i l = one-left s A b i 0 l z
-
-  pub column-iterated : (A : Matrix) → Binary s A → (n : ℕ) → iterated s R (packed s (λ (i : ℕ). A i 0)) n ≡ packed s (λ (i : ℕ). mul s (pow s columnsOf n) A i 0)
-  unfolding iterated
-  column-iterated A b zero = packed-same s (λ i l. sym (column-start A b i l))
-  column-iterated A b (suc n) =
-      ap (combined s R) (column-iterated A b n) ∙ column-step (mul s (pow s columnsOf n) A) (mul-binary s (pow s columnsOf n) A)
-      ∙ packed-same s (λ i l.
-      sym (assoc s columnsOf (pow s columnsOf n) A i 0 l z)
-      ∙ mul-same s (pow-left s columnsOf columns-binary n) (λ a b ha hb. refl) i 0 l z)

@@ -3,7 +3,8 @@ use mathlib.Core.Path.{sym, _∙_}
 use native.Mathlib.Omega.{arith}
 use borrow.Author.Tests.{not-true, not-false}
 use Rattle.measurement.specs.Matrices.{ofBytes, isBytes}
-use Rattle.measurement.proofs.Strings.{first-bad, second-bad, bytes-length, measures-same, measures-bytes}
+use Rattle.measurement.proofs.Matrices.{same-binary}
+use Rattle.measurement.proofs.Strings.{first-bad, second-bad, both-good, bytes-good, answer-same}
 use Rattle.measurement.proofs.measures_bytes.Statement.{statement}
 use Rattle.measurement.proofs.measures_bytes.Tie as tie
 
@@ -25,20 +26,29 @@ returns-2 c =
     (sym (c .before .before .before .is-matrix .ensures) ∙ not-false _ (c .before .before .if1 .left)) (sym (c .before .is-matrix2 .ensures) ∙ not-true _ (c .if2 .taken))
 
 of-bytes-requires : tie.Need-of-bytes-requires
-of-bytes-requires c κs = bytes-length 6 (c .before .before .before .before .before .before .args .mx .now) (sym (c .before .before .before .is-matrix .ensures) ∙ not-false _ (c .before .before .if1 .left))
+of-bytes-requires c κs =
+    let m = c .before .before .before .before .before .before .args .mx .now in
+    bytes-good 6 m (sym (c .before .before .before .is-matrix .ensures) ∙ not-false _ (c .before .before .if1 .left)) .0
 
 of-bytes-requires-2 : tie.Need-of-bytes-requires-2
-of-bytes-requires-2 c κs = bytes-length 6 (c .before .before .before .before .before .before .before .args .my .now) (sym (c .before .before .is-matrix2 .ensures) ∙ not-false _ (c .before .if2 .left))
+of-bytes-requires-2 c κs =
+    let m = c .before .before .before .before .before .before .before .args .my .now in
+    bytes-good 6 m (sym (c .before .before .is-matrix2 .ensures) ∙ not-false _ (c .before .if2 .left)) .0
 
-measures-requires : tie.Need-measures-requires
-measures-requires c κs = search needs
+native-string-requires : tie.Need-native-string-requires
+native-string-requires c κs =
+    let b = c .before .before in
+    let g = b .before .before .before .before .before .before .args in
+    let x = bytes-good 6 (g .mx .now) (sym (b .before .before .before .is-matrix .ensures) ∙ not-false _ (b .before .before .if1 .left)) in
+    let y = bytes-good 6 (g .my .now) (sym (b .before .is-matrix2 .ensures) ∙ not-false _ (b .if2 .left)) in
+    (same-binary 6 (c .before .of-bytes .ensures) (x .1), same-binary 6 (c .of-bytes2 .ensures) (y .1))
 
 returns-3 : tie.Need-returns-3
 returns-3 c =
     let b = c .before .before .before in
     let g = b .before .before .before .before .before .before .args in
-    c .measures .ensures ∙ measures-same 6 (omega arith) (c .before .before .of-bytes .ensures) (c .before .of-bytes2 .ensures) (g .n .0)
-    ∙ measures-bytes 6 (g .mx .now) (g .my .now) (g .n .0) (sym (b .before .before .before .is-matrix .ensures) ∙ not-false _ (b .before .before .if1 .left))
+    c .native-string .ensures ∙ answer-same 6 (omega arith) (c .before .before .of-bytes .ensures) (c .before .of-bytes2 .ensures) (g .n .0)
+    ∙ both-good 6 (ofBytes 6 (g .mx .now)) (ofBytes 6 (g .my .now)) (g .n .0) _ _ (sym (b .before .before .before .is-matrix .ensures) ∙ not-false _ (b .before .before .if1 .left))
     (sym (b .before .is-matrix2 .ensures) ∙ not-false _ (b .if2 .left))
 
 pub measures-bytes-spec : {M : Type 1} → statement M
@@ -51,5 +61,5 @@ measures-bytes-spec =
     returns-2
     of-bytes-requires
     of-bytes-requires-2
-    measures-requires
+    native-string-requires
     returns-3)

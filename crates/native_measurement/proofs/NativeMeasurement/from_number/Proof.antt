@@ -10,11 +10,11 @@ use Rattle.native_measurement.proofs.NativeMeasurement.from_number.Tie 
 add-pair : tie.Need-add-pair
 add-pair c = search needs
 
-letter-of-requires : tie.Need-letter-of-requires
-letter-of-requires c κs = search needs
+of-rank-requires : tie.Need-of-rank-requires
+of-rank-requires c κs = search needs
 
-letter-of-requires-2 : tie.Need-letter-of-requires-2
-letter-of-requires-2 c κs = search needs
+of-rank-requires-2 : tie.Need-of-rank-requires-2
+of-rank-requires-2 c κs = search needs
 
 new-requires : tie.Need-new-requires
 new-requires c κs = search needs
@@ -28,8 +28,8 @@ enum-told c = search needs
 returns : tie.Need-returns
 returns c =
     let n = c .before .before .before .before .before .before .args .n .0 in
-    let p = c .before .before .before .before .letter-of in
-    let q = c .before .before .before .letter-of2 in
+    let p = c .before .before .before .before .of-rank in
+    let q = c .before .before .before .of-rank2 in
     let t = c .before .before .new in
     absurd (pair-bases n (p .result) (q .result) (p .ensures) (q .ensures) (sym (t .ensures) ∙ c .enum-told .given .1))
 
@@ -42,8 +42,8 @@ new-requires-2 c κs = search needs
 returns-2 : tie.Need-returns-2
 returns-2 c =
     let n = c .before .before .before .before .before .before .before .before .args .n .0 in
-    let p = c .before .before .before .before .before .before .letter-of in
-    let q = c .before .before .before .before .before .letter-of2 in
+    let p = c .before .before .before .before .before .before .of-rank in
+    let q = c .before .before .before .before .before .of-rank2 in
     let t = c .before .before .before .before .new in
     simp (lt-ltb n 540 (omega arith)) (ap NativeIs (native-bases n (p .result) (q .result) _ (p .ensures) (q .ensures) (sym (t .ensures) ∙ c .before .before .logical .given .1) _ (c .new2 .ensures)))
 
@@ -55,8 +55,8 @@ from-number-spec =
     tie.close
     (tie.spec
     add-pair
-    letter-of-requires
-    letter-of-requires-2
+    of-rank-requires
+    of-rank-requires-2
     new-requires
     enum-known-logical
     enum-told

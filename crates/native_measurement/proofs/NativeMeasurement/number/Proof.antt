@@ -23,16 +23,16 @@ cast-t8 c = search needs
 mul-t9 : tie.Need-mul-t9
 mul-t9 c = search needs
 
-pair-of-requires : tie.Need-pair-of-requires
-pair-of-requires c κs = search needs
+pair-number-requires : tie.Need-pair-number-requires
+pair-number-requires c κs = search needs
 
 add-t11 : tie.Need-add-t11
-add-t11 c = let h = pair-lt _ (c .pair-of .ensures) in omega arith
+add-t11 c = let h = pair-lt _ (c .pair-number .ensures) in omega arith
 
 returns : tie.Need-returns
 unfolding numberOf
 returns c =
-    let p = c .pair-of .ensures in
+    let p = c .pair-number .ensures in
     let y = c .before .get-y .ensures in
     let x = c .before .before .get-x .ensures in
     rw (x, y, p)
@@ -47,6 +47,6 @@ number-spec =
     add-a
     cast-t8
     mul-t9
-    pair-of-requires
+    pair-number-requires
     add-t11
     returns)

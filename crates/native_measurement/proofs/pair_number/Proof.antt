@@ -3,8 +3,8 @@ use mathlib.Core.Path.{ap, _∙_}
 use Rattle.bicycle_common.specs.Letters.{rank}
 use native.Mathlib.Omega.{arith}
 use Rattle.native_measurement.proofs.Natives.{place-lt}
-use Rattle.native_measurement.proofs.pair_of.Statement.{statement}
-use Rattle.native_measurement.proofs.pair_of.Tie as tie
+use Rattle.native_measurement.proofs.pair_number.Statement.{statement}
+use Rattle.native_measurement.proofs.pair_number.Tie as tie
 
 get-basis-1-requires : tie.Need-get-basis-1-requires
 get-basis-1-requires c κs = search needs
@@ -39,8 +39,8 @@ returns-2 c =
     let q = c .before .rank2 .ensures ∙ ap rank (c .before .before .get-basis-7 .ensures) in
     omega arith
 
-pub pair-of-spec : {M : Type 1} → statement M
-pair-of-spec =
+pub pair-number-spec : {M : Type 1} → statement M
+pair-number-spec =
     tie.close
     (tie.spec
     get-basis-1-requires
