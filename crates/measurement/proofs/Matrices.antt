@@ -6,6 +6,7 @@ use Prim.Native.Nat.{ℕ, zero, suc, _+_, _*_, _/_, _%_, _^_, _<_, _≤_}
 use native.Mathlib.Nat.{mul-le-mul, two-pow-succ}
 use native.Mathlib.Numerals.{add-one}
 use native.Mathlib.Omega.{arith}
+use mir.Val.{boolByte}
 use lib.Dec.{T, eqb, leb, eqb→eq, leb→le}
 use lib.ListN.{getD, length}
 use borrow.Author.Tests.{le-leb, lt-leb, eq-eqb, ne-eqb}
@@ -36,6 +37,11 @@ product-le a b ha hb = mul-le-mul ha hb
 pub flag-le : (b : Bool) → flag b ≤ 1
 flag-le true = omega arith
 flag-le false = omega arith
+
+-- a yes or no, as a number
+pub byte-flag : (b : Bool) → boolByte b ≡ flag b
+byte-flag true = refl
+byte-flag false = refl
 
 pub mul-binary : (s : ℕ) (a b : Matrix) → Binary s (mul s a b)
 unfolding mul

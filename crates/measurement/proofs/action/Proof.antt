@@ -1,3 +1,5 @@
+-- `measurement::action` meets its contract: the two powers are what their contracts say, and a product reads the numbers below the side alone.
+-- Assumes nothing.
 use borrow.Author.Needs.{needs}
 use Rattle.measurement.specs.Measures.{action}
 use Rattle.measurement.proofs.Matrices.{same-binary, pow-binary, same-trans, mul-same}

@@ -1,3 +1,4 @@
+-- `measurement::dot` meets its contract: the loop adds one product of two digits a turn, so the sum stays at most 6. Assumes nothing.
 use borrow.Author.Needs.{needs}
 use mathlib.Core.Path.{_≡_, refl}
 use Prim.Native.Nat.{ℕ, _-_, _*_, _≤_}

@@ -1,3 +1,4 @@
+-- `measurement::first_row` meets its contract: the loop copies the numbers of row 0. Assumes nothing.
 use borrow.Author.Needs.{needs}
 use mathlib.Core.Path.{_≡_, refl, _∙_}
 use Prim.Native.Nat.{ℕ, _-_, _<_, _≤_}

@@ -1,3 +1,4 @@
+-- `measurement::flat` meets its contract: the loop copies the numbers in the order of the rows. Assumes nothing.
 use borrow.Author.Needs.{needs}
 use mathlib.Core.Path.{_≡_, refl}
 use Prim.Native.Nat.{ℕ, _-_, _/_, _%_, _<_, _≤_}

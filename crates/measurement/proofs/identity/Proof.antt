@@ -1,3 +1,4 @@
+-- `measurement::identity` meets its contract: its 36 numbers are compared with those of `one` by a computed test. Assumes nothing.
 use Rattle.bicycle_common.specs.Ranges.{allBelow}
 use Rattle.measurement.specs.Matrices.{one}
 use Rattle.measurement.proofs.Matrices.{sameTest, same-by-test}

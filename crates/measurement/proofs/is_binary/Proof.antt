@@ -1,3 +1,4 @@
+-- `measurement::is_binary` meets its contract: the numbers by rows are good exactly when the matrix is. Assumes nothing.
 use borrow.Author.Needs.{needs}
 use mathlib.Core.Path.{ap, _∙_}
 use Rattle.measurement.specs.Matrices.{side, isBytes}

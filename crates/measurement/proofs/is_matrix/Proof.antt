@@ -1,3 +1,5 @@
+-- `measurement::is_matrix` meets its contract: a wrong length or the first number over 1 ends it, and the loop has passed every other number.
+-- Assumes nothing.
 use borrow.Author.Needs.{needs}
 use mathlib.Core.Path.{sym}
 use Prim.Native.Nat.{ℕ, _-_, _<_, _≤_}

@@ -1,3 +1,4 @@
+-- `measurement::measures` meets its contract: the two tests decide between 3 and the answer of `native_string`. Assumes nothing.
 use borrow.Author.Needs.{needs}
 use mathlib.Core.Path.{sym, _∙_}
 use borrow.Author.Tests.{not-true, not-false}

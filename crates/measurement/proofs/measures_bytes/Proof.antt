@@ -1,3 +1,5 @@
+-- `measurement::measures_bytes` meets its contract: the two tests decide 3, and the matrices that are read have the numbers of the bytes.
+-- Assumes nothing.
 use borrow.Author.Needs.{needs}
 use mathlib.Core.Path.{sym, _∙_}
 use native.Mathlib.Omega.{arith}

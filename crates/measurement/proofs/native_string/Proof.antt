@@ -1,3 +1,4 @@
+-- `measurement::native_string` meets its contract: the number is a native's or not, as `from_number` answers. Assumes nothing.
 use borrow.Author.Needs.{needs}
 use mathlib.Core.Path.{sym, _∙_}
 use Rattle.measurement.specs.Matrices.{ofRows}

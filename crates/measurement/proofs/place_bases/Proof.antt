@@ -1,3 +1,4 @@
+-- `measurement::place_bases` meets its contract: each letter gives its two digits, which are at most 1. Assumes nothing.
 use borrow.Author.Needs.{needs}
 use Rattle.measurement.proofs.Strings.{x-le, z-le}
 use Rattle.measurement.proofs.place_bases.Statement.{statement}

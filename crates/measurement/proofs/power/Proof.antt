@@ -1,3 +1,4 @@
+-- `measurement::power` meets its contract: each turn multiplies by m once more. Assumes nothing.
 use borrow.Author.Needs.{needs}
 use mathlib.Core.Path.{_≡_}
 use Prim.Native.Nat.{_-_, _≤_}

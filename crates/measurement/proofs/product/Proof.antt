@@ -1,3 +1,4 @@
+-- `measurement::product` meets its contract: the loop forms one row a turn. Assumes nothing.
 use borrow.Author.Needs.{needs}
 use mathlib.Core.Path.{_≡_, refl}
 use mathlib.Core.List.{List, []}

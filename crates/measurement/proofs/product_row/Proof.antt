@@ -1,3 +1,4 @@
+-- `measurement::product_row` meets its contract: the loop forms one number of the row a turn. Assumes nothing.
 use borrow.Author.Needs.{needs}
 use mathlib.Core.Path.{_≡_, refl}
 use Prim.Native.Nat.{ℕ, _-_, _<_, _≤_}

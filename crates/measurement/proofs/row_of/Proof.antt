@@ -1,3 +1,4 @@
+-- `measurement::row_of` meets its contract: the loop copies six bytes. Assumes nothing.
 use borrow.Author.Needs.{needs}
 use mathlib.Core.Path.{_≡_, refl}
 use Prim.Native.Nat.{ℕ, _-_, _<_, _≤_}

@@ -1,3 +1,4 @@
+-- `measurement::string_of` meets its contract: column and row are digits, packed, and the letters place them. Assumes nothing.
 use borrow.Author.Needs.{needs}
 use mathlib.Core.Path.{_∙_}
 use native.Mathlib.Omega.{arith}

@@ -1,14 +1,9 @@
+-- `measurement::z_of` meets its contract: a yes or no as a number is its flag. Assumes nothing.
 use borrow.Author.Needs.{needs}
-use mathlib.Core.Path.{_≡_, refl, _∙_}
-use mathlib.Core.Bool.{Bool, true, false}
-use mir.Val.{boolByte}
-use Rattle.bicycle_common.specs.Letters.{flag}
+use mathlib.Core.Path.{_∙_}
+use Rattle.measurement.proofs.Matrices.{byte-flag}
 use Rattle.measurement.proofs.z_of.Statement.{statement}
 use Rattle.measurement.proofs.z_of.Tie as tie
-
-same : (b : Bool) → boolByte b ≡ flag b
-same true = refl
-same false = refl
 
 has-z-requires : tie.Need-has-z-requires
 has-z-requires c κs = search needs
@@ -17,7 +12,7 @@ cast-result : tie.Need-cast-result
 cast-result c = search needs
 
 returns : tie.Need-returns
-returns c = same (c .has-z .result) ∙ c .has-z .ensures
+returns c = byte-flag (c .has-z .result) ∙ c .has-z .ensures
 
 pub z-of-spec : {M : Type 1} → statement M
 z-of-spec = tie.close (tie.spec has-z-requires cast-result returns)

@@ -1,3 +1,4 @@
+-- `native_measurement::of_rank` meets its contract: the arms are the four places. Assumes nothing.
 use mathlib.Core.Path.{_≡_, sym, ap}
 use native.Mathlib.Omega.{arith}
 use Rattle.native_measurement.specs.Natives.{ofRank}

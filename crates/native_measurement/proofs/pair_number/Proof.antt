@@ -1,3 +1,5 @@
+-- `native_measurement::pair_number` meets its contract: both places are below 4; at (I,I) the subtraction stops at 0, as in the definition.
+-- Assumes nothing.
 use borrow.Author.Needs.{needs}
 use mathlib.Core.Path.{ap, _∙_}
 use Rattle.bicycle_common.specs.Letters.{rank}

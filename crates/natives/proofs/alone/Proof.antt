@@ -1,3 +1,5 @@
+-- `natives::alone` meets its contract: the walk passes every greater native of the bucket, so it meets an equal string if there is one; it
+-- ends because a chain ascends. Assumes nothing.
 use borrow.Author.Needs.{needs}
 use mathlib.Core.Path.{_≡_, refl, sym, _∙_}
 use Prim.Native.Nat.{_-_, _<_, _≤_}

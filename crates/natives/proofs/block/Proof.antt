@@ -1,3 +1,4 @@
+-- `natives::block` meets its contract: the loop writes one string a turn, and leaves those before the block. Assumes nothing.
 use borrow.Author.Needs.{needs}
 use mathlib.Core.Path.{_≡_, refl, _∙_}
 use Prim.Native.Nat.{ℕ, _+_, _-_, _*_, _<_, _≤_}

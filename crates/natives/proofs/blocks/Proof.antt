@@ -1,3 +1,4 @@
+-- `natives::blocks` meets its contract: the loop writes the fifteen strings of one automorphism a turn. Assumes nothing.
 use borrow.Author.Needs.{needs}
 use mathlib.Core.Path.{_≡_, refl}
 use Prim.Native.Nat.{ℕ, _-_, _*_, _/_, _%_, _<_, _≤_}

@@ -1,3 +1,4 @@
+-- `natives::columns_of` meets its contract: with the strides 1 and 6 the words are the columns. Assumes nothing.
 use Rattle.natives.proofs.Grids.{column-lines, columns-are}
 use Rattle.natives.proofs.columns_of.Statement.{statement}
 use Rattle.natives.proofs.columns_of.Tie as tie

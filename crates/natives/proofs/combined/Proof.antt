@@ -1,3 +1,4 @@
+-- `natives::combined` meets its contract: the code is the definition written out; each term is a word of six bits. Assumes nothing.
 use borrow.Author.Needs.{needs}
 use mathlib.Core.Path.{_≡_}
 use Prim.Native.Nat.{ℕ, _-_, _*_, _/_, _%_, _<_, _≤_}

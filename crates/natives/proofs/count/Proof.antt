@@ -1,3 +1,4 @@
+-- `natives::count` meets its contract: the loop adds 1 for each place where the string stands. Assumes nothing.
 use borrow.Author.Needs.{needs}
 use mathlib.Core.Path.{_≡_, sym, ap, ap₂, _∙_}
 use Prim.Native.Nat.{ℕ, _+_, _-_, _≤_}

@@ -1,3 +1,4 @@
+-- `natives::grid` meets its contract: each row of the grid is a run from one head, and the heads are a run from 1. Assumes nothing.
 use borrow.Author.Needs.{needs}
 use mathlib.Core.Path.{_≡_, refl, ap, _∙_}
 use mathlib.Core.List.{List, []}

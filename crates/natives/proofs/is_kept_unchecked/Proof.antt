@@ -1,3 +1,5 @@
+-- `natives::is_kept_unchecked` meets its contract: from its own number on the string occurs once exactly when the native is kept. Assumes
+-- nothing.
 use borrow.Author.Needs.{needs}
 use mathlib.Core.Path.{ap, _∙_}
 use native.Mathlib.Omega.{arith}

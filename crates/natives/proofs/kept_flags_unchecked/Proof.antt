@@ -1,3 +1,5 @@
+-- `natives::kept_flags_unchecked` meets its contract: from the greatest native down, each finds the chain of its bucket, and then becomes the
+-- chain's head. Assumes nothing.
 use borrow.Author.Needs.{needs}
 use mathlib.Core.Path.{_≡_, refl, subst}
 use mathlib.Core.Bool.{Bool, false}

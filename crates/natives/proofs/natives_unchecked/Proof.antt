@@ -1,3 +1,4 @@
+-- `natives::natives_unchecked` meets its contract: the parts are what the calls answer, and the flags read the strings alone. Assumes nothing.
 use borrow.Author.Needs.{needs}
 use Rattle.measurement.proofs.Strings.{bytes-good}
 use Rattle.natives.proofs.Kept.{natives-of}

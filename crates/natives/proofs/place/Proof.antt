@@ -1,3 +1,4 @@
+-- `natives::place` meets its contract: the digits of the two letters are those of k + 1 to the base 4. Assumes nothing.
 use borrow.Author.Needs.{needs}
 use mathlib.Core.Path.{_∙_}
 use native.Mathlib.Omega.{arith}

@@ -1,3 +1,4 @@
+-- `natives::rows_of` meets its contract: with the strides 6 and 1 the words are the rows. Assumes nothing.
 use Rattle.natives.proofs.Grids.{row-lines, rows-are}
 use Rattle.natives.proofs.rows_of.Statement.{statement}
 use Rattle.natives.proofs.rows_of.Tie as tie

@@ -1,3 +1,4 @@
+-- `natives::run` meets its contract: each turn stores the word and takes it through r once more. Assumes nothing.
 use borrow.Author.Needs.{needs}
 use mathlib.Core.Path.{_≡_, refl, ap, _∙_}
 use Prim.Native.Nat.{ℕ, _-_, _<_, _≤_}

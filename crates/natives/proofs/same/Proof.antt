@@ -1,3 +1,4 @@
+-- `natives::same` meets its contract: the two branches are the two values of the test. Assumes nothing.
 use mathlib.Core.Path.{sym, ap}
 use borrow.Author.Tests.{eq-eqb, ne-eqb}
 use Rattle.bicycle_common.specs.Letters.{flag}

@@ -1,3 +1,5 @@
+-- `natives::strings_unchecked` meets its contract: the cells of the two grids are the first rows and the first columns, so their strings are
+-- the natives'. Assumes nothing.
 use borrow.Author.Needs.{needs}
 use mathlib.Core.Path.{_∙_}
 use Prim.Native.Nat.{_-_}

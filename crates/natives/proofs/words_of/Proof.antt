@@ -1,3 +1,4 @@
+-- `natives::words_of` meets its contract: the loop reads one word a turn. Assumes nothing.
 use borrow.Author.Needs.{needs}
 use mathlib.Core.Path.{_≡_, refl}
 use Prim.Native.Nat.{ℕ, _-_, _<_, _≤_}

@@ -1,3 +1,4 @@
+-- `measurement::CodeMeasurement::new` meets its contract: both matrices are laid out by `flat`. Assumes nothing.
 use borrow.Author.Needs.{needs}
 use Rattle.measurement.proofs.CodeMeasurement.new.Statement.{statement}
 use Rattle.measurement.proofs.CodeMeasurement.new.Tie as tie

@@ -1,3 +1,5 @@
+-- `measurement::MeasurementChoices::measurement` meets its contract: the constants of each code, laid out by rows, compute to the digits of
+-- the definition. Assumes nothing.
 use borrow.Author.Needs.{needs}
 use mathlib.Core.List.{flatMap}
 use mathlib.Core.Path.{sym, ap, _∙_}

@@ -1,3 +1,5 @@
+-- `native_measurement::NativeMeasurement::from_number` meets its contract: the two letters are never both the identity, so the case without
+-- bases cannot be. Assumes nothing.
 use borrow.Author.Needs.{needs}
 use mathlib.Core.Path.{sym, ap, _∙_}
 use native.Mathlib.Omega.{arith}

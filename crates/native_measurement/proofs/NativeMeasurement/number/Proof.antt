@@ -1,3 +1,5 @@
+-- `native_measurement::NativeMeasurement::number` meets its contract: the components are below 6 and the pair below 15, so nothing overflows.
+-- Assumes nothing.
 use borrow.Author.Needs.{needs}
 use native.Mathlib.Omega.{arith}
 use Rattle.native_measurement.specs.Natives.{numberOf}
