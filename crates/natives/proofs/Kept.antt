@@ -1,6 +1,6 @@
 -- The test of a kept native says what it means, and of the natives with one string exactly one is kept: the greatest. By a search from the
 -- top. Assumes nothing.
-use mathlib.Core.Bool.{Bool, true, false, not, _&&_}
+use mathlib.Core.Bool.{Bool, true, false, not, _&&_, cond}
 use mathlib.Core.List.{List}
 use mathlib.Core.Logic.{⊎-elim}
 use mathlib.Core.Path.{_≡_, refl, sym, ap, ap₂, subst, _∙_}
@@ -8,12 +8,12 @@ use Prim.Native.Nat.{ℕ, zero, suc, _-_, _<_, _≤_}
 use native.Mathlib.Nat.{eq-or-lt-of-le, le-antisymm}
 use native.Mathlib.Omega.{arith, by-contra}
 use lib.Dec.{T, eqb, ltb}
-use borrow.Author.Tests.{lt-ltb, eq-eqb, ltb-true, eqb-true, eqb-false}
+use borrow.Author.Tests.{lt-ltb, eq-eqb, ne-eqb, ltb-true, eqb-true, eqb-false}
 use Rattle.bicycle_common.proofs.Ranges.{all-true, all-false, all-same, length-from, listed-at, listed-all}
 use Rattle.native_measurement.specs.Natives.{natives}
 use Rattle.measurement.specs.Matrices.{side, ofBytes}
 use Rattle.measurement.specs.Measures.{nativeString}
-use Rattle.natives.specs.Kept.{beats, keptBy, kept, Kept, Keeper}
+use Rattle.natives.specs.Kept.{beats, keptBy, kept, Kept, keptBelow, keptFor, Keeper}
 use Rattle.natives.specs.Arrays.{at, strings, flags, nativesOf}
 
 -- ---- the test
@@ -63,23 +63,61 @@ keeper-here f n k h e above = record {
   only = λ m hm q t. le-antisymm (by-contra m k (λ l. above m l hm q)) (by-contra k m (λ l. kept-sound f m t k l h (e ∙ sym q)));
 }
 
--- the search: none from k on has the string of n
-search-down : (f : ℕ → ℕ) (n k : ℕ) → k ≤ natives → n < k → ((m : ℕ) → k ≤ m → m < natives → f m ≡ f n → ⊥) → (j : ℕ) × Keeper f n j
-search-down f n zero h l above = absurd (omega arith)
-search-down f n (suc k) h l above = go (λ l above. search-down f n k (omega arith) l above) (eqb (f k) (f n)) refl
+-- the search from the top: none from k on has the string of n
+keeper-below : (f : ℕ → ℕ) (n k : ℕ) → k ≤ natives → n < k → ((m : ℕ) → k ≤ m → m < natives → f m ≡ f n → ⊥) → Keeper f n (keptBelow f (f n) k)
+unfolding keptBelow
+keeper-below f n zero h l above = absurd (omega arith)
+keeper-below f n (suc k) h l above = go (λ l above. keeper-below f n k (omega arith) l above) (eqb (f k) (f n)) refl
   where
-    go : (n < k → ((m : ℕ) → k ≤ m → m < natives → f m ≡ f n → ⊥) → (j : ℕ) × Keeper f n j) → (b : Bool) → eqb (f k) (f n) ≡ b
-        → (j : ℕ) × Keeper f n j
-    go rest true e = (k, keeper-here f n k (omega arith) (eqb-true (f k) (f n) e) (λ m q hm. above m q hm))
+    go : (n < k → ((m : ℕ) → k ≤ m → m < natives → f m ≡ f n → ⊥) → Keeper f n (keptBelow f (f n) k)) → (b : Bool) → eqb (f k) (f n) ≡ b
+        → Keeper f n (cond b k (keptBelow f (f n) k))
+    go rest true e = keeper-here f n k (omega arith) (eqb-true (f k) (f n) e) (λ m q hm. above m q hm)
     go rest false e =
         let ne : f k ≡ f n → ⊥ = eqb-false (f k) (f n) e in
         rest
         (⊎-elim (λ (q : n ≡ k). absurd (ne (ap f (sym q)))) (λ (q : n < k). q) (eq-or-lt-of-le (omega arith)))
         (λ m q hm p. ⊎-elim (λ (r : k ≡ m). ne (ap f r ∙ p)) (λ (r : k < m). above m r hm p) (eq-or-lt-of-le q))
 
+-- the number kept for a native's string keeps that string
+pub keeper-for : (f : ℕ → ℕ) (n : ℕ) → n < natives → Keeper f n (keptFor f (f n))
+keeper-for f n h = keeper-below f n natives (omega arith) h (λ m a b e. absurd (omega arith))
+
 -- every native has a keeper: exactly one native is kept for its string, and it is the greatest
 pub keeper : (f : ℕ → ℕ) (n : ℕ) → n < natives → (k : ℕ) × Keeper f n k
-keeper f n h = search-down f n natives (omega arith) h (λ m a b e. absurd (omega arith))
+keeper f n h = (keptFor f (f n), keeper-for f n h)
+
+-- what is kept for x has the string x
+kept-below-string : (f : ℕ → ℕ) (x k : ℕ) → keptBelow f x k < natives → f (keptBelow f x k) ≡ x
+unfolding keptBelow
+kept-below-string f x zero h = absurd (omega arith)
+kept-below-string f x (suc k) h = go (λ q. kept-below-string f x k q) (eqb (f k) x) refl h
+  where
+    go : (keptBelow f x k < natives → f (keptBelow f x k) ≡ x) → (b : Bool) → eqb (f k) x ≡ b → cond b k (keptBelow f x k) < natives
+        → f (cond b k (keptBelow f x k)) ≡ x
+    go rest true e q = eqb-true (f k) x e
+    go rest false e q = rest q
+
+pub kept-for-string : (f : ℕ → ℕ) (x : ℕ) → keptFor f x < natives → f (keptFor f x) ≡ x
+kept-for-string f x h = kept-below-string f x natives h
+
+-- one step of the search
+pub kept-below-here : (f : ℕ → ℕ) (x k : ℕ) → 0 < k → f (k - 1) ≡ x → keptBelow f x k ≡ k - 1
+unfolding keptBelow
+kept-below-here f x zero h e = absurd (omega arith)
+kept-below-here f x (suc k) h e =
+    let z : suc k - 1 ≡ k = omega arith in
+    ap (λ (b : Bool). cond b k (keptBelow f x k)) (eq-eqb (f k) x (ap f (sym z) ∙ e)) ∙ sym z
+
+pub kept-below-next : (f : ℕ → ℕ) (x k : ℕ) → 0 < k → (f (k - 1) ≡ x → ⊥) → keptBelow f x k ≡ keptBelow f x (k - 1)
+unfolding keptBelow
+kept-below-next f x zero h e = absurd (omega arith)
+kept-below-next f x (suc k) h e =
+    let z : suc k - 1 ≡ k = omega arith in
+    ap (λ (b : Bool). cond b k (keptBelow f x k)) (ne-eqb (f k) x (λ d. e (ap f z ∙ d))) ∙ ap (keptBelow f x) (sym z)
+
+pub kept-below-none : (f : ℕ → ℕ) (x : ℕ) → keptBelow f x 0 ≡ natives
+unfolding keptBelow
+kept-below-none f x = refl
 
 -- ---- the struct
 

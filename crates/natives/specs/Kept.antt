@@ -1,7 +1,7 @@
 -- Which native is kept of those that measure one string. Assumes nothing.
-use mathlib.Core.Bool.{Bool, true, not, _&&_}
+use mathlib.Core.Bool.{Bool, true, not, _&&_, cond}
 use mathlib.Core.Path.{_≡_}
-use Prim.Native.Nat.{ℕ, _<_, _≤_}
+use Prim.Native.Nat.{ℕ, zero, suc, _<_, _≤_}
 use lib.Dec.{eqb, ltb}
 use Rattle.bicycle_common.specs.Ranges.{allBelow}
 use Rattle.native_measurement.specs.Natives.{natives}
@@ -20,6 +20,15 @@ kept f = keptBy (beats f)
 -- the same, as a statement: no greater number has the string of n
 abbrev pub Kept : (ℕ → ℕ) → ℕ → Type 0
 Kept f n = (m : ℕ) → n < m → m < natives → f m ≡ f n → ⊥
+
+-- the greatest number below k whose string is x, or `natives` where none has it
+unfoldable pub keptBelow : (ℕ → ℕ) → ℕ → ℕ → ℕ
+keptBelow f x zero = natives
+keptBelow f x (suc k) = cond (eqb (f k) x) k (keptBelow f x k)
+
+-- the number that is kept for string x, or `natives` where no native measures x
+abbrev pub keptFor : (ℕ → ℕ) → ℕ → ℕ
+keptFor f x = keptBelow f x natives
 
 -- native k is the one kept for the string of n: it has that string and is kept, it is the greatest of those that have it, and no other of
 -- them is kept

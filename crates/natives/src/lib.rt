@@ -17,7 +17,7 @@ ghost use lib.ListN.{getD, length};
 ghost use Rattle.bicycle_common.specs.Letters.{flag};
 ghost use Rattle.native_measurement.specs.Natives.{natives};
 ghost use Rattle.measurement.specs.Matrices.{side, ofBytes, isBytes, Binary, Same};
-ghost use Rattle.natives.specs.Kept.{kept};
+ghost use Rattle.natives.specs.Kept.{kept, keptFor};
 ghost use Rattle.natives.specs.Arrays.{at, strings, flags, nativesOf};
 ghost use Rattle.natives.specs.Packed.{combined, iterated, ofRowWords, ofColumnWords, Words, wordAt, Lines, Cells, SmallCells, wordString, Upto, Block};
 ghost use Rattle.natives.specs.Chains.{bucket, Next, Linked, occurrences};
@@ -251,6 +251,21 @@ pub fn is_kept_unchecked(s: &[u32], n: usize) -> bool
 {
     let v = s[n];
     count(s, v, n, 540) == 1
+}
+
+// The number that is kept for string x, or 540 where no native measures x.
+pub fn kept_number_unchecked(s: &[u32], x: u32) -> usize
+    requires { ⌜ length (now s) ≡ natives ⌝ }
+    ensures { λ r. ⌜ r ≡ keptFor (at (now (s .entry))) x ⌝ }
+{
+    let mut n: usize = 540;
+    while 0 < n {
+        n -= 1;
+        if s[n] == x {
+            return n;
+        }
+    }
+    540
 }
 
 // ---- all of it
