@@ -1,17 +1,18 @@
--- Laws of sums, tests and lists over the numbers below a bound. Assumes nothing.
+-- Laws of sums, greatest values, tests and lists over the numbers below a bound. Assumes nothing.
 use mathlib.Core.Path.{_≡_, refl, sym, ap, ap₂, subst, _∙_}
 use mathlib.Core.Logic.{⊎-elim, _⊎_, inl, inr}
 use mathlib.Core.Bool.{Bool, true, false, _&&_, and-false}
 use mathlib.Core.List.{List, [], _∷_}
-use Prim.Native.Nat.{ℕ, zero, suc, _+_, _<_, _≤_, suc-le-suc}
+use Prim.Native.Nat.{ℕ, zero, suc, _+_, _<_, _≤_, max, suc-le-suc}
 use native.Mathlib.Nat.{not-suc-le-zero, le-of-suc-le-suc, eq-or-lt-of-le, zero-lt-suc, add-zero, add-suc, suc-add, zero-add}
 use native.Mathlib.Numerals.{add-one}
+use native.Mathlib.Decide.{ℕ-discrete}
 use native.Mathlib.Omega.{arith}
 use lib.Dec.{T, eqb, ltb}
 use lib.ListN.{length, getD, set}
 use lib.Seq.{getD-set-same, getD-set-other}
 use borrow.Author.Tests.{ltb-true, ltb-false, eqb-true, eqb-false}
-use Rattle.bicycle_common.specs.Ranges.{sum, allBelow, listFrom, listed}
+use Rattle.bicycle_common.specs.Ranges.{sum, most, allBelow, listFrom, listed, inTurn}
 use Rattle.bicycle_common.proofs.Tests.{left, right}
 
 less-by : (m n : ℕ) (b : Bool) → ltb m n ≡ b → (m < n) ⊎ (n ≤ m)
@@ -38,6 +39,43 @@ unfolding sum
 sum-le zero f h = omega arith
 sum-le (suc n) f h = omega (arith, sum-le n f (λ j l. h j (omega arith)), h n (omega arith))
 
+pub sum-zero : (n : ℕ) (f : ℕ → ℕ) → ((j : ℕ) → j < n → f j ≡ 0) → sum n f ≡ 0
+unfolding sum
+sum-zero zero f h = refl
+sum-zero (suc n) f h = omega (arith, h n (omega arith), sum-zero n f (λ j l. h j (omega arith)))
+
+pub sum-mono : (n : ℕ) (f g : ℕ → ℕ) → ((j : ℕ) → j < n → f j ≤ g j) → sum n f ≤ sum n g
+unfolding sum
+sum-mono zero f g h = omega arith
+sum-mono (suc n) f g h = omega (arith, h n (omega arith), sum-mono n f g (λ j l. h j (omega arith)))
+
+-- no term is greater, and term k is less
+pub sum-less : (n : ℕ) (f g : ℕ → ℕ) (k : ℕ) → k < n → ((j : ℕ) → j < n → f j ≤ g j) → f k < g k → sum n f < sum n g
+unfolding sum
+sum-less zero f g k l h s = absurd (omega arith)
+sum-less (suc n) f g k l h s = elim (ℕ-discrete k n) [
+  | yes z ↦ omega (arith, ap f z, ap g z, sum-mono n f g (λ j l. h j (omega arith)))
+  | no w ↦ omega (arith, h n (omega arith), sum-less n f g k (omega arith) (λ j l. h j (omega arith)) s)
+]
+
+-- term k is one more, and the others are the same
+pub sum-more : (n : ℕ) (f g : ℕ → ℕ) (k : ℕ) → k < n → ((j : ℕ) → (j ≡ k → ⊥) → f j ≡ g j) → f k + 1 ≡ g k → sum n f + 1 ≡ sum n g
+unfolding sum
+sum-more zero f g k l h s = absurd (omega arith)
+sum-more (suc n) f g k l h s = elim (ℕ-discrete k n) [
+  | yes z ↦ omega (arith, ap f z, ap g z, sum-same n f g (λ j l. h j (omega arith)))
+  | no w ↦ omega (arith, h n (λ z. w (sym z)), sum-more n f g k (omega arith) h s)
+]
+
+-- n numbers of at most 1, one of them 0, sum to less than n
+pub sum-lacks : (n : ℕ) (f : ℕ → ℕ) (k : ℕ) → k < n → ((j : ℕ) → j < n → f j ≤ 1) → f k ≡ 0 → sum n f < n
+unfolding sum
+sum-lacks zero f k l h s = absurd (omega arith)
+sum-lacks (suc n) f k l h s = elim (ℕ-discrete k n) [
+  | yes z ↦ omega (arith, ap f z, sum-le n f (λ j l. h j (omega arith)))
+  | no w ↦ omega (arith, h n (omega arith), sum-lacks n f k (omega arith) (λ j l. h j (omega arith)) s)
+]
+
 -- the first term apart
 pub sum-first : (n : ℕ) (f : ℕ → ℕ) → sum (suc n) f ≡ f 0 + sum n (λ (j : ℕ). f (suc j))
 unfolding sum
@@ -59,6 +97,27 @@ sum-pos (suc n) f h =
     (λ (q : 0 < f n). (n, omega arith, q))
     (λ (q : f n ≤ 0). let r = sum-pos n f (omega arith) in (r .0, omega (arith, r .1), r .2))
     (lt-or-ge 0 (f n))
+
+-- ---- the greatest value
+
+pub most-none : (f : ℕ → ℕ) → most 0 f ≡ 0
+unfolding most
+most-none f = refl
+
+pub most-next : (n : ℕ) (f : ℕ → ℕ) → most (n + 1) f ≡ max (most n f) (f n)
+unfolding most
+most-next n f = rw add-one
+
+pub most-at : (n : ℕ) (f : ℕ → ℕ) (j : ℕ) → j < n → f j ≤ most n f
+unfolding most
+most-at zero f j h = absurd (not-suc-le-zero h)
+most-at (suc n) f j h =
+    ⊎-elim (λ (q : j ≡ n). omega (arith, ap f q)) (λ (q : j < n). omega (arith, most-at n f j q)) (eq-or-lt-of-le (le-of-suc-le-suc h))
+
+pub most-le : (n : ℕ) (f : ℕ → ℕ) (b : ℕ) → ((j : ℕ) → j < n → f j ≤ b) → most n f ≤ b
+unfolding most
+most-le zero f b h = omega arith
+most-le (suc n) f b h = omega (arith, h n (omega arith), most-le n f b (λ j l. h j (omega arith)))
 
 -- ---- tests
 
@@ -134,3 +193,29 @@ module _ {A : Type 0} where
   pub stored-more : (P : ℕ → A → Type 0) (l : List A) (d : A) (k : ℕ) (v : A) → k < length l
       → ((t : ℕ) → t < k → P t (getD l t d)) → P k v → (t : ℕ) → t < k + 1 → P t (getD (set l k v) t d)
   stored-more P l d k v hk h p t ht = stored-at (P t) l d t k v hk (λ e. rw e p) (λ e. h t (omega arith))
+
+  -- ---- steps in turn
+
+  pub in-turn-none : (step : ℕ → A → A) (s : A) → inTurn 0 step s ≡ s
+  unfolding inTurn
+  in-turn-none step s = refl
+
+  pub in-turn-next : (n : ℕ) (step : ℕ → A → A) (s : A) → inTurn (n + 1) step s ≡ step n (inTurn n step s)
+  unfolding inTurn
+  in-turn-next n step s = ap (λ (k : ℕ). inTurn k step s) (add-one n)
+
+  pub in-turn-same : (n : ℕ) (step other : ℕ → A → A) (s : A) → ((j : ℕ) → j < n → (a : A) → step j a ≡ other j a)
+      → inTurn n step s ≡ inTurn n other s
+  unfolding inTurn
+  in-turn-same zero step other s h = refl
+  in-turn-same (suc n) step other s h =
+      ap (step n) (in-turn-same n step other s (λ j l. h j (omega arith))) ∙ h n (omega arith) (inTurn n other s)
+
+  -- what each step leads from one number to the next holds at the end
+  pub in-turn-all : (P : ℕ → A → Type 0) (n : ℕ) (step : ℕ → A → A) (s : A) → ((j : ℕ) → j < n → (a : A) → P j a → P (j + 1) (step j a)) → P 0 s
+      → P n (inTurn n step s)
+  unfolding inTurn
+  in-turn-all P zero step s h p = p
+  in-turn-all P (suc n) step s h p =
+      subst (λ (k : ℕ). P k (step n (inTurn n step s))) (add-one n)
+      (h n (omega arith) (inTurn n step s) (in-turn-all P n step s (λ j l. h j (omega arith)) p))

@@ -1,6 +1,6 @@
 -- The pivot of a string of q letters: the masks that the program uses, that blanking takes away the letter on the pivot alone, and
 -- that a rotation keeps it. Assumes nothing.
-use mathlib.Core.Path.{_≡_, refl, sym, ap, ap₂, _∙_}
+use mathlib.Core.Path.{_≡_, refl, sym, ap, ap₂, subst, _∙_}
 use mathlib.Core.Bool.{Bool, true, false, Bool·beq, cond, _&&_}
 use Prim.Native.Nat.{ℕ, zero, suc, _+_, _-_, _*_, _/_, _%_, _^_, _≤_, _<_}
 use native.Mathlib.Nat.{mod-lt, add-zero, add-mul}
@@ -15,6 +15,7 @@ use Rattle.bicycle_common.proofs.Tests.{bits, at-bit}
 use Rattle.bicycle_common.proofs.Letters.{beq→eq}
 use Rattle.pauli_string.specs.Strings.{bit, letterAt, commute, conj, pivotBits, blank, hasPivot, rotate}
 use Rattle.pauli_string.proofs.Digits.{even, halved, bit-lt, bit-first, bit-even, xor-bit, bit-high, bit-low}
+use Rattle.pauli_string.proofs.Range.{four-pow}
 use Rattle.pauli_string.proofs.Commutation.{conj-conj, conj-lt, conj-nonzero}
 
 -- ---- the masks
@@ -136,6 +137,13 @@ rotate-rotate q p r = conj-conj q p (blank q r)
 pub rotate-lt : (q p r : ℕ) → p < 2 ^ (q + q) → r < 2 ^ (q + q) → rotate q p r < 2 ^ (q + q)
 unfolding rotate
 rotate-lt q p r hp hr = conj-lt q (q + q) p (blank q r) hp (omega (arith, blank-le q r))
+
+-- so a rotation leads from string to string
+pub rotate-string : (q p r : ℕ) → p < 4 ^ q → r < 4 ^ q → rotate q p r < 4 ^ q
+rotate-string q p r hp hr =
+    let e = four-pow q in
+    subst (λ (n : ℕ). rotate q p r < n) (sym e)
+    (rotate-lt q p r (subst (λ (n : ℕ). p < n) e hp) (subst (λ (n : ℕ). r < n) e hr))
 
 pub rotate-nonzero : (q p r : ℕ) → rotate q p r ≡ 0 → p ≡ 0
 unfolding rotate

@@ -1,0 +1,60 @@
+-- What each public call answers: 1 for bytes that are no table of the strings of q letters, 4 for a number that is no string, 7 where there is
+-- no value. The lowest number that applies is given. Assumes nothing.
+use mathlib.Core.Bool.{Bool, cond}
+use mathlib.Core.List.{List, [], _∷_}
+use Prim.Native.Nat.{ℕ, _^_}
+use lib.Dec.{eqb}
+use lib.ListN.{length}
+use Rattle.bicycle_common.specs.declared.Refusal.the-variants.{TableLength, StringRange, NoEntry}
+use Rattle.bicycle_common.specs.Refusals.{Told, answered, refused}
+use Rattle.bicycle_common.specs.Ranges.{most, allBelow}
+use Rattle.shortest.specs.Counts.{entriesIn}
+use Rattle.pauli_string.specs.declared.BoolAnswer.{BoolAnswer}
+use Rattle.pauli_string.specs.declared.BoolAnswer.the-variants.{Is as BoolIs, Refused as NoBool}
+use Rattle.pauli_string.specs.Strings.{isString}
+use Rattle.table.specs.declared.NumberAnswer.{NumberAnswer}
+use Rattle.table.specs.declared.NumberAnswer.the-variants.{Is as NumberIs, Refused as NoNumber}
+use Rattle.table.specs.Bytes.{tableLength, entry}
+use Rattle.table.specs.Entries.{depth, field, cost}
+
+abbrev pub toldNumber : NumberAnswer → Told
+toldNumber (NumberIs n) = answered (n ∷ [])
+toldNumber (NoNumber r) = refused 1 r
+
+-- the bytes have the length of a table
+abbrev pub isTable : ℕ → List ℕ → Bool
+isTable q t = eqb (length t) (tableLength q)
+
+-- ---- of the whole table
+
+-- how many values are not 0
+abbrev pub entries : ℕ → List ℕ → ℕ
+entries q t = entriesIn (entry t) (4 ^ q)
+
+-- the greatest depth
+abbrev pub deepest : ℕ → List ℕ → ℕ
+deepest q t = most (4 ^ q) (λ (p : ℕ). depth (entry t p))
+
+-- true exactly when every value is 0
+abbrev pub isEmpty : ℕ → List ℕ → BoolAnswer
+isEmpty q t = cond (isTable q t) (BoolIs (allBelow (4 ^ q) (λ (p : ℕ). eqb (entry t p) 0))) (NoBool TableLength)
+
+abbrev pub lenOf : ℕ → List ℕ → NumberAnswer
+lenOf q t = cond (isTable q t) (NumberIs (entries q t)) (NoNumber TableLength)
+
+-- ---- at string p
+
+abbrev pub readAt : ℕ → List ℕ → ℕ → NumberAnswer → NumberAnswer
+readAt q t p a = cond (isTable q t) (cond (isString q p) a (NoNumber StringRange)) (NoNumber TableLength)
+
+abbrev pub valueAt : ℕ → List ℕ → ℕ → NumberAnswer
+valueAt q t p = readAt q t p (NumberIs (entry t p))
+
+abbrev pub depthAt : ℕ → List ℕ → ℕ → NumberAnswer
+depthAt q t p = readAt q t p (NumberIs (depth (entry t p)))
+
+abbrev pub fieldAt : ℕ → List ℕ → ℕ → NumberAnswer
+fieldAt q t p = readAt q t p (NumberIs (field (entry t p)))
+
+abbrev pub costAt : ℕ → List ℕ → ℕ → NumberAnswer
+costAt q t p = readAt q t p (cond (eqb (entry t p) 0) (NoNumber NoEntry) (NumberIs (cost p (entry t p))))
