@@ -1,7 +1,7 @@
 -- The pivot of a string of q letters: the masks that the program uses, that blanking takes away the letter on the pivot alone, and
 -- that a rotation keeps it. Assumes nothing.
 use mathlib.Core.Path.{_≡_, refl, sym, ap, ap₂, subst, _∙_}
-use mathlib.Core.Bool.{Bool, true, false, Bool·beq, cond, _&&_}
+use mathlib.Core.Bool.{Bool, true, false, Bool·beq, cond, not, _&&_}
 use Prim.Native.Nat.{ℕ, zero, suc, _+_, _-_, _*_, _/_, _%_, _^_, _≤_, _<_}
 use native.Mathlib.Nat.{mod-lt, add-zero, add-mul}
 use native.Mathlib.Omega.{arith}
@@ -9,6 +9,7 @@ use lib.Dec.{eqb, eqb·suc-zero, lit<}
 use borrow.Author.Tests.{eq-eqb, ne-eqb, eqb-true, not-false}
 use lib.Pow.{pow-pos, split, shr-lt, pow-lt, pow-sub-lt, shr-mod, high, low}
 use lib.Bits.{bitAnd, bitXor, differ, and-block, and-mask, and-high}
+use Rattle.bicycle_common.specs.declared.Pauli.{Pauli}
 use Rattle.bicycle_common.specs.declared.Pauli.the-variants.{I}
 use Rattle.bicycle_common.specs.Letters.{letter, isI}
 use Rattle.bicycle_common.proofs.Tests.{bits, at-bit}
@@ -113,6 +114,20 @@ blank-same q p e =
     let z : pivotBits q p ≡ 0 = eqb-true (pivotBits q p) 0 (pivot-zero q p ∙ not-false (isI (letterAt q p 0)) e) in
     omega arith
 
+-- so blanking twice is blanking
+pub blank-blank : (q p : ℕ) → 0 < q → blank q (blank q p) ≡ blank q p
+blank-blank q p h = blank-same q (blank q p) (unfold hasPivot in ap (λ (l : Pauli). not (isI l)) (blank-pivot q p h))
+
+-- the pivot's digits are a part of the string
+pub pivot-le : (q p : ℕ) → 0 < q → pivotBits q p ≤ p
+unfolding pivotBits
+pivot-le q p h =
+    let b : bit p 0 ≡ p % 2 ^ q % 2 = sym (bit-low p q 0 h) ∙ bit-first (p % 2 ^ q) in
+    below p (2 ^ q) (p / 2 ^ q) (p % 2 ^ q) (bit p q) (bit p 0) (split p q) (unfold bit in refl) b
+  where
+    below : (p P a b z x : ℕ) → a * P + b ≡ p → z ≡ a % 2 → x ≡ b % 2 → z * P + x ≤ p
+    below p P a b z x e ez ex = rw ez (omega (arith, halved a P))
+
 -- ---- a rotation keeps the letter on the pivot, and undoes itself
 
 differ-zero : (x : ℕ) → differ x 0 ≡ x
@@ -129,6 +144,18 @@ rotate-pivot q p r h = go (commute q p (blank q r))
         ap₂ letter
         (xor-bit p (blank q r) 0 ∙ ap (differ (bit p 0)) (blank-x q r h) ∙ differ-zero (bit p 0))
         (xor-bit p (blank q r) (q + 0) ∙ ap (differ (bit p (q + 0))) (ap (bit (blank q r)) (add-zero q) ∙ blank-z q r h) ∙ differ-zero (bit p (q + 0)))
+
+-- and so the digits of that letter
+pub rotate-pivot-bits : (q p r : ℕ) → 0 < q → pivotBits q (rotate q p r) ≡ pivotBits q p
+unfolding rotate conj pivotBits
+rotate-pivot-bits q p r h = go (commute q p (blank q r))
+  where
+    go : (b : Bool) → bit (cond b p (bitXor p (blank q r))) q * 2 ^ q + bit (cond b p (bitXor p (blank q r))) 0 ≡ bit p q * 2 ^ q + bit p 0
+    go true = refl
+    go false =
+        ap₂ (λ (a b : ℕ). a * 2 ^ q + b)
+        (xor-bit p (blank q r) q ∙ ap (differ (bit p q)) (blank-z q r h) ∙ differ-zero (bit p q))
+        (xor-bit p (blank q r) 0 ∙ ap (differ (bit p 0)) (blank-x q r h) ∙ differ-zero (bit p 0))
 
 pub rotate-rotate : (q p r : ℕ) → rotate q (rotate q p r) r ≡ p
 unfolding rotate

@@ -5,14 +5,15 @@ use Prim.Native.Nat.{ℕ, zero, suc, _+_, _-_, _*_, _/_, _%_, _^_, _≤_, _<_}
 use native.Mathlib.Nat.{mod-lt, mod-eq-of-lt, mul-div-cancel, lt-of-lt-of-le, mul-comm, mul-assoc}
 use native.Mathlib.Numerals.{add-one}
 use native.Mathlib.Omega.{arith}
-use lib.Dec.{eqb, eqb·suc-zero}
+use lib.Dec.{eqb, eqb·suc-zero, lit<}
 use borrow.Author.Tests.{ne-eqb}
 use lib.Arith.{digits-lt}
 use lib.Pow.{pow-pos, split, shr-lt, shl-exact, shl-lt, shr-shr, pow-add, pow-mono, high, low}
 use lib.Bits.{bitAnd, bitOr, and-mask, or-shifted}
 use Rattle.pauli_string.specs.Strings.{bit, blank, pivotBits, hasPivot, logicalBits, rotationOf}
 use Rattle.pauli_string.proofs.Digits.{even, half-lt, two-pos, bit-low, bit-high, bit-first, bit-double}
-use Rattle.pauli_string.proofs.Pivot.{zero-parts, blank-halves, blank-same}
+use Rattle.pauli_string.proofs.Range.{four-pow}
+use Rattle.pauli_string.proofs.Pivot.{zero-parts, blank-halves, blank-same, pivot-le}
 
 -- ---- the words, in w bits
 
@@ -115,6 +116,33 @@ rotation-logical j p =
 -- so all of a string with a blank pivot
 pub rotation-logical-blank : (j p : ℕ) → hasPivot (suc j) p ≡ false → rotationOf (suc j) (logicalBits (suc j) p) ≡ p
 rotation-logical-blank j p h = rotation-logical j p ∙ blank-same (suc j) p h
+
+-- a string is its pivot letter and the letters above it; for no letter at all too
+pub pivot-logical : (q p : ℕ) → p < 4 ^ q → (logicalBits q p < 4 ^ (q - 1)) × (rotationOf q (logicalBits q p) + pivotBits q p ≡ p)
+pivot-logical zero p h = none p (omega arith)
+  where
+    zeros : (logicalBits 0 0 < 4 ^ (0 - 1)) × (rotationOf 0 (logicalBits 0 0) + pivotBits 0 0 ≡ 0)
+    zeros = unfold logicalBits rotationOf pivotBits bit in (lit< tt, refl)
+
+    none : (p : ℕ) → p ≡ 0 → (logicalBits 0 p < 4 ^ (0 - 1)) × (rotationOf 0 (logicalBits 0 p) + pivotBits 0 p ≡ p)
+    none p e = subst (λ (p : ℕ). (logicalBits 0 p < 4 ^ (0 - 1)) × (rotationOf 0 (logicalBits 0 p) + pivotBits 0 p ≡ p)) (sym e) zeros
+pivot-logical (suc j) p h = (below, whole)
+  where
+    hp : p < 2 ^ (suc j + suc j)
+    hp = subst (λ (n : ℕ). p < n) (four-pow (suc j)) h
+
+    hi : p / 2 ^ suc j / 2 < 2 ^ j
+    hi = shr-lt j 1 (subst (λ (e : ℕ). p / 2 ^ suc j < 2 ^ e) (sym (add-one j)) (shr-lt (suc j) (suc j) hp))
+
+    below : logicalBits (suc j) p < 4 ^ (suc j - 1)
+    below =
+        let k : suc j - 1 ≡ j = omega arith in
+        rw (k, four-pow j, pow-add 2 j j, logical-halves j p) (digits-lt hi (half-lt j p))
+
+    whole : rotationOf (suc j) (logicalBits (suc j) p) + pivotBits (suc j) p ≡ p
+    whole =
+        let e : blank (suc j) p ≡ p - pivotBits (suc j) p = unfold blank in refl in
+        omega (arith, rotation-logical j p, e, pivot-le (suc j) p (omega arith))
 
 -- a letter stands above the pivot where the logical digits are not all zero
 pub logical-zero : (j p : ℕ) → eqb (logicalBits (suc j) p) 0 ≡ eqb (blank (suc j) p) 0

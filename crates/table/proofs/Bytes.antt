@@ -81,7 +81,7 @@ entry-put-other t p v r h =
 
 -- ---- zeros
 
-getD-zeros : (n i : ℕ) → getD (zeros n) i 0 ≡ 0
+pub getD-zeros : (n i : ℕ) → getD (zeros n) i 0 ≡ 0
 unfolding zeros
 getD-zeros n i = elim (decLt i n) [ yes l ↦ getD-replicate n i 0 0 l | no f ↦ List·getD-eq-default (replicate n 0) 0 (out n i f) ]
   where

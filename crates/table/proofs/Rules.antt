@@ -32,9 +32,10 @@ kept-one f p m n a b =
 
 -- a string is measured by some native, or by none
 pub native-or-none : (f : ℕ → ℕ) (p : ℕ) → ((n : ℕ) × KeptFor f p n) ⊎ NoNative f p
-native-or-none f p = elim (decLt (keptFor f p) natives)
-  [ yes l ↦ inl (keptFor f p, kept-for f p (keptFor f p) l (kept-for-string f p l))
-  | no g ↦ inr (λ n h e. g (kept-for f p n h e .below)) ]
+native-or-none f p = elim (decLt (keptFor f p) natives) [
+  | yes l ↦ inl (keptFor f p, kept-for f p (keptFor f p) l (kept-for-string f p l))
+  | no g ↦ inr (λ n h e. g (kept-for f p n h e .below))
+]
 
 none-kept : (f : ℕ → ℕ) (p : ℕ) → ((n : ℕ) → KeptFor f p n → ⊥) → NoNative f p
 none-kept f p h n l e = h (keptFor f p) (kept-for f p n l e)
@@ -61,6 +62,7 @@ module _ (q : ℕ) (f : ℕ → ℕ) (small : (n : ℕ) → f n < 4 ^ q) (e : �
       where
         some : Has e p
         some z = h (ok p (i .below) .without (i .some) z .alone n r)
+
         far : depth (e (leads q f p n)) + 1 < depth (e p) → ⊥
         far l = ok p (i .below) .other (i .some) (deep-none p i (omega arith)) some .no-shorter n r h (omega arith)
 
@@ -71,6 +73,7 @@ module _ (q : ℕ) (f : ℕ → ℕ) (small : (n : ℕ) → f n < 4 ^ q) (e : �
         base m =
             let b : Base q f p (m .0) = record { string = i; keeps = m .1 } in
             (m .0, native-entry p (m .0) b .1, inl (b, native-entry p (m .0) b .0))
+
         deep : NoNative f p → Made (graph q f small) (steps (graph q f small)) values e p
         deep none =
             let d = ok p (i .below) .other (i .some) none h in
@@ -94,6 +97,7 @@ module _ (q : ℕ) (f : ℕ → ℕ) (small : (n : ℕ) → f n < 4 ^ q) (e : �
       where
         b : Base q f p n
         b = record { string = i; keeps = k }
+
         go : Has e p × (depth (e p) ≤ 0) → Made (graph q f small) (steps (graph q f small)) values e p → (depth (e p) ≡ 0) × Names (e p) n
         go h m =
             ⊎-elim

@@ -20,7 +20,7 @@ returns-3 c =
     simp (
       eq-eqb _ _ (e .before .before .before .if1 .left),
       lt-ltb _ _ (e .before .if2 .left),
-      eq-eqb _ _ (sym (e .entry-unchecked .ensures) ∙ c .if3 .taken)
+      eq-eqb _ _ (sym (e .entry-unchecked .ensures) ∙ c .if3 .taken),
     ) refl
 
 returns-4 : tie.Need-returns-4
@@ -30,7 +30,7 @@ returns-4 c =
       eq-eqb _ _ (e .before .before .before .if1 .left),
       lt-ltb _ _ (e .before .if2 .left),
       ne-eqb _ _ (λ z. c .before .before .if3 .left (e .entry-unchecked .ensures ∙ z)),
-      eq-eqb _ _ (c .if4 .taken)
+      eq-eqb _ _ (c .if4 .taken),
     ) refl
 
 mul-t10 : tie.Need-mul-t10
@@ -47,7 +47,7 @@ returns-5 c =
       lt-ltb _ _ (e .before .if2 .left),
       ne-eqb _ _ (λ z. c .before .before .if3 .left (e .entry-unchecked .ensures ∙ z)),
       ne-eqb _ _ (c .if4 .left),
-      e .entry-unchecked .ensures
+      e .entry-unchecked .ensures,
     ) refl
 
 pub cost-spec : {M : Type 1} → statement M

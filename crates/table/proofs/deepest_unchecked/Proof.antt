@@ -35,13 +35,12 @@ loop-again c =
     let e = c .before in
     let l = e .before .before in
     let t = l .before .before .args .table .now in
-    let z = most-next (l .loop .p) (λ (r : ℕ). depth (entry t r)) in
-    (
+    let z = most-next (l .loop .p) (λ (r : ℕ). depth (entry t r)) in (
       omega arith,
       ⊎-elim
-      (λ w. omega (arith, z, e .entry-unchecked .ensures, l .loop .inv .1, w))
-      (λ w. omega (arith, z, e .entry-unchecked .ensures, l .loop .inv .1, w))
-      (c .if1 .came),
+          (λ w. omega (arith, z, e .entry-unchecked .ensures, l .loop .inv .1, w))
+          (λ w. omega (arith, z, e .entry-unchecked .ensures, l .loop .inv .1, w))
+          (c .if1 .came),
     )
 
 returns : tie.Need-returns Inv-loop μ-loop

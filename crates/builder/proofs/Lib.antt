@@ -1,0 +1,7 @@
+-- Laws that belong to no one function: the model keeps in range; the order of work makes no difference; what is built meets the rules.
+pub mod States
+pub mod Packed
+pub mod Filter
+pub mod Same
+pub mod Meets
+pub mod Answers

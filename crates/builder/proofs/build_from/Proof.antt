@@ -1,0 +1,70 @@
+-- `builder::build_from` meets its contract: the state after each part of the work is the model's, and what is answered is counted in it.
+-- Assumes nothing.
+-- after the search the state is the model's
+use borrow.Author.Needs.{needs}
+use mathlib.Core.Path.{_≡_, sym, ap, subst, _∙_}
+use Prim.Native.Nat.{_^_}
+use native.Mathlib.Omega.{arith}
+use Rattle.bicycle_common.specs.Ranges.{inTurn}
+use Rattle.pauli_string.specs.Strings.{qubits}
+use Rattle.natives.specs.Arrays.{at}
+use Rattle.builder.specs.Model.{state, expand, built}
+use Rattle.builder.specs.States.{twelve, Good}
+use Rattle.builder.proofs.States.{count-below}
+use Rattle.builder.proofs.Meets.{seeded-good, built-good}
+use Rattle.builder.proofs.Answers.{built-outcome}
+use Rattle.builder.proofs.build_from.Statement.{statement}
+use Rattle.builder.proofs.build_from.Tie as tie
+
+searched : (c : tie.After-search)
+    → state (c .search .last .0) (c .search .last .1 .0) (c .search .result) ≡ built qubits (at (c .before .before .before .before .before .before .before .before .before .before .before .before .before .before .before .before .before .before .before .before .args .strings .now))
+unfolding built
+searched c = c .search .ensures ∙ ap (inTurn (4 ^ qubits) (expand qubits (at (c .before .before .before .before .before .before .before .before .before .before .before .before .before .before .before .before .before .before .before .before .args .strings .now)))) (c .before .before .before .before .before .before .before .seeds .ensures)
+
+searched-good : (c : tie.After-search) → Good qubits (built qubits (at (c .before .before .before .before .before .before .before .before .before .before .before .before .before .before .before .before .before .before .before .before .args .strings .now)))
+searched-good c = built-good qubits twelve (at (c .before .before .before .before .before .before .before .before .before .before .before .before .before .before .before .before .before .before .before .before .args .strings .now)) (c .before .before .before .before .before .before .before .before .before .before .before .before .before .before .before .before .before .before .before .before .pre .1 .1)
+
+begin-requires : tie.Need-begin-requires
+begin-requires c κs = search needs
+
+seeds-requires : tie.Need-seeds-requires
+seeds-requires c κs = search needs
+
+search-requires : tie.Need-search-requires
+search-requires c κs =
+    let d = c .before .before .before .before .before .before in
+    let s = d .before .before .before .before .before .before .before .before .before .before .before .before .before in
+    (s .pre .1, subst (Good qubits) (sym (d .seeds .ensures)) (seeded-good qubits twelve (at (s .args .strings .now)) (s .pre .1 .1)))
+
+deepest-unchecked-requires : tie.Need-deepest-unchecked-requires
+deepest-unchecked-requires c κs = search needs
+
+add-t22 : tie.Need-add-t22
+add-t22 c =
+    let e = c .before .before .before .before .before .before in
+    let w = state (e .search .last .0) (e .search .last .1 .0) (e .search .result) in
+    omega (arith, count-below qubits w (subst (Good qubits) (sym (searched e)) (searched-good e)))
+
+same-length : tie.Need-same-length
+same-length c = search needs
+
+same-length-2 : tie.Need-same-length-2
+same-length-2 c = search needs
+
+returns : tie.Need-returns
+returns c =
+    let e = c .before .before .before .before .before .before in
+    built-outcome qubits (e .search .last .0) (e .search .last .1 .0) (e .search .result) (c .deepest-unchecked .result) (built qubits (at (e .before .before .before .before .before .before .before .before .before .before .before .before .before .before .before .before .before .before .before .before .args .strings .now))) (searched e) (searched-good e) (c .deepest-unchecked .ensures)
+
+pub build-from-spec : {M : Type 1} → statement M
+build-from-spec =
+    tie.close
+    (tie.spec
+    begin-requires
+    seeds-requires
+    search-requires
+    deepest-unchecked-requires
+    add-t22
+    same-length
+    same-length-2
+    returns)

@@ -1,0 +1,73 @@
+-- `builder::seed` meets its contract: a nonzero string is discovered at depth 0 with the number kept for it. Assumes nothing.
+use borrow.Author.Needs.{needs}
+use mathlib.Core.Path.{sym, ap, subst, _∙_}
+use Prim.Native.Nat.{ℕ}
+use native.Mathlib.Omega.{arith}
+use Rattle.pauli_string.specs.Strings.{qubits}
+use Rattle.natives.specs.Arrays.{at}
+use Rattle.natives.proofs.Kept.{keeper-for}
+use Rattle.table.specs.Entries.{value}
+use Rattle.builder.specs.Model.{state, discover}
+use Rattle.builder.specs.States.{Asks}
+use Rattle.builder.proofs.States.{seed-none, seed-some, seed-asks}
+use Rattle.builder.proofs.seed.Statement.{statement}
+use Rattle.builder.proofs.seed.Tie as tie
+
+mul-x : tie.Need-mul-x
+mul-x c = search needs
+
+shared-slice-read-x : tie.Need-shared-slice-read-x
+shared-slice-read-x c = search needs
+
+returns : tie.Need-returns
+returns c =
+    let a = c .before .before .before .before .before .args in
+    sym (seed-none (at (a .strings .now)) (a .n) (state (a .table .now) (a .queue .now) (a .count)) (c .if1 .taken))
+
+kept-number-unchecked-requires : tie.Need-kept-number-unchecked-requires
+kept-number-unchecked-requires c κs = search needs
+
+cast-k : tie.Need-cast-k
+cast-k c =
+    let s = c .before .before .before .before .before .before in
+    omega (arith, c .kept-number-unchecked .ensures, keeper-for (at (s .args .strings .now)) (s .args .n) (s .pre .0 .0) .below)
+
+discover-requires : tie.Need-discover-requires
+discover-requires c κs =
+    let k = c .before .before in
+    let s = k .before .before .before .before .before .before in
+    let a = s .args in
+    let w = state (a .table .now) (a .queue .now) (a .count) in
+    let f = at (a .strings .now) in
+    (s .pre .1, subst (λ (n : ℕ). Asks qubits w (f (a .n)) 0 n) (sym (k .kept-number-unchecked .ensures)) (seed-asks qubits f (a .n) w (s .pre .0 .2 (a .n)) (s .pre .0 .0)))
+
+same-length : tie.Need-same-length
+same-length c = search needs
+
+same-length-2 : tie.Need-same-length-2
+same-length-2 c = search needs
+
+returns-2 : tie.Need-returns-2
+returns-2 c =
+    let d = c .before .before .before .before in
+    let k = d .before .before .before in
+    let a = k .before .before .before .before .before .before .args in
+    let w = state (a .table .now) (a .queue .now) (a .count) in
+    let f = at (a .strings .now) in
+    d .discover .ensures
+    ∙ ap (λ (n : ℕ). discover (f (a .n)) (value 0 n) w) (k .kept-number-unchecked .ensures)
+    ∙ sym (seed-some f (a .n) w (k .before .if1 .left))
+
+pub seed-spec : {M : Type 1} → statement M
+seed-spec =
+    tie.close
+    (tie.spec
+    mul-x
+    shared-slice-read-x
+    returns
+    kept-number-unchecked-requires
+    cast-k
+    discover-requires
+    same-length
+    same-length-2
+    returns-2)

@@ -1,0 +1,82 @@
+-- `builder::seeds` meets its contract: after n natives the state is the model's, and in range. Assumes nothing.
+use borrow.Author.Needs.{needs}
+use mathlib.Core.Path.{_≡_, refl, sym, ap, subst, _∙_}
+use Prim.Native.Nat.{ℕ, _≤_, _-_}
+use native.Mathlib.Omega.{arith}
+use lib.ListN.{length}
+use Rattle.bicycle_common.specs.Ranges.{inTurn}
+use Rattle.bicycle_common.proofs.Ranges.{in-turn-none, in-turn-next}
+use Rattle.pauli_string.specs.Strings.{qubits}
+use Rattle.natives.specs.Arrays.{at}
+use Rattle.builder.specs.Model.{state, blank, seed, seeded}
+use Rattle.builder.specs.States.{twelve, Good}
+use Rattle.builder.proofs.States.{blank-good, seed-good}
+use Rattle.builder.proofs.seeds.Statement.{statement}
+use Rattle.builder.proofs.seeds.Tie as tie
+
+abbrev Inv-loop : tie.InvT-loop
+Inv-loop table₀ queue₀ strings c₀ n₀ table queue c n =
+    (n ≤ 540) × (length table ≡ length table₀) × (length queue ≡ length queue₀) × Good qubits (state table queue c)
+    × (state table queue c ≡ inTurn n (seed (at strings)) (blank qubits))
+
+abbrev μ-loop : tie.MeasureT-loop
+μ-loop table₀ queue₀ strings c₀ n₀ table queue c n = 540 - n
+
+loop-holds : tie.Need-loop-holds Inv-loop μ-loop
+loop-holds c =
+    let s = c .before .before .before in
+    (omega arith, refl, refl, subst (Good qubits) (sym (s .pre .1)) (blank-good qubits), s .pre .1 ∙ sym (in-turn-none (seed (at (s .args .strings .now))) (blank qubits)))
+
+seed-requires : tie.Need-seed-requires Inv-loop μ-loop
+seed-requires c κs =
+    let l = c .before .before .before in
+    let s = l .before .before .before .before in
+    ((c .before .before .loop-test .taken, s .pre .0 .0, s .pre .0 .1), l .loop .inv .3)
+
+add-n : tie.Need-add-n Inv-loop μ-loop
+add-n c = search needs
+
+loop-less : tie.Need-loop-less Inv-loop μ-loop
+loop-less c = search needs
+
+loop-again : tie.Need-loop-again Inv-loop μ-loop
+loop-again c =
+    let d = c .before .before .before .before in
+    let l = d .before .before .before .before in
+    let s = l .before .before .before .before in
+    let f = at (s .args .strings .now) in
+    let w = state (l .loop .table) (l .loop .queue) (l .loop .c) in (
+      omega arith,
+      d .seed .kept .0 ∙ l .loop .inv .1,
+      d .seed .kept .1 .0 ∙ l .loop .inv .2,
+      subst (Good qubits) (sym (d .seed .ensures)) (seed-good qubits twelve f (l .loop .n) w (s .pre .0 .1 (l .loop .n)) (d .before .before .before .loop-test .taken) (l .loop .inv .3)),
+      d .seed .ensures ∙ ap (seed f (l .loop .n)) (l .loop .inv .4) ∙ sym (in-turn-next (l .loop .n) (seed f) (blank qubits)),
+    )
+
+same-length : tie.Need-same-length Inv-loop μ-loop
+same-length c = c .before .loop .inv .1
+
+same-length-2 : tie.Need-same-length-2 Inv-loop μ-loop
+same-length-2 c = c .before .loop .inv .2
+
+returns : tie.Need-returns Inv-loop μ-loop
+unfolding seeded
+returns c =
+    let l = c .before in
+    let z : l .loop .n ≡ 540 = omega arith in
+    l .loop .inv .4 ∙ ap (λ (n : ℕ). inTurn n (seed (at (l .before .before .before .before .args .strings .now))) (blank qubits)) z
+
+pub seeds-spec : {M : Type 1} → statement M
+seeds-spec =
+    tie.close
+    (tie.spec
+    Inv-loop
+    μ-loop
+    loop-holds
+    seed-requires
+    add-n
+    loop-less
+    loop-again
+    same-length
+    same-length-2
+    returns)

@@ -1,0 +1,45 @@
+-- `builder::turn` meets its contract: what is gathered is tried, and that is what the rotations try. Assumes nothing.
+use borrow.Author.Needs.{needs}
+use mathlib.Core.Path.{_∙_}
+use native.Mathlib.Omega.{arith}
+use Rattle.pauli_string.specs.Strings.{qubits}
+use Rattle.natives.specs.Arrays.{at}
+use Rattle.builder.specs.Model.{state}
+use Rattle.builder.specs.States.{twelve}
+use Rattle.builder.proofs.States.{moving-asks}
+use Rattle.builder.proofs.turn.Statement.{statement}
+use Rattle.builder.proofs.turn.Tie as tie
+
+gather-requires : tie.Need-gather-requires
+gather-requires c κs = search needs
+
+visits-requires : tie.Need-visits-requires
+visits-requires c κs =
+    let g = c .before .before .before .before in
+    let s = g .before .before .before .before .before in
+    let a = s .args in
+    let xs = g .gather .last .1 .1 .1 .1 .0 in
+    let gs = g .gather .last .1 .1 .1 .1 .1 .0 in (
+      (omega (arith, g .gather .ensures .front, s .pre .2 .few), s .pre .3 .good),
+      λ j h. moving-asks qubits twelve (a .p) (a .depth) (at xs j) (at gs j) (state (a .table .now) (a .queue .now) (a .count)) (g .gather .ensures .beside j h) (s .pre .3),
+    )
+
+same-length : tie.Need-same-length
+same-length c = search needs
+
+same-length-2 : tie.Need-same-length-2
+same-length-2 c = search needs
+
+returns : tie.Need-returns
+returns c =
+    let v = c .before .before .before .before in
+    let g = v .before .before .before .before .before in
+    let s = g .before .before .before .before .before in
+    let a = s .args in (
+      g .gather .ensures .long-x,
+      g .gather .ensures .long-g,
+      v .visits .ensures ∙ g .gather .ensures .same (a .depth) (state (a .table .now) (a .queue .now) (a .count)) (s .pre .3 .has),
+    )
+
+pub turn-spec : {M : Type 1} → statement M
+turn-spec = tie.close (tie.spec gather-requires visits-requires same-length same-length-2 returns)

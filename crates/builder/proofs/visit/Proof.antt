@@ -1,0 +1,72 @@
+-- `builder::visit` meets its contract: a turn is skipped where the filter shows that it is idle. Assumes nothing.
+use borrow.Author.Needs.{needs}
+use mathlib.Core.Path.{sym, ap, subst, _∙_}
+use Prim.Native.Nat.{ℕ, _+_}
+use Rattle.bicycle_common.specs.Ranges.{inTurn}
+use Rattle.pauli_string.specs.Strings.{qubits}
+use Rattle.table.specs.Bytes.{entry}
+use Rattle.table.specs.Entries.{depth}
+use Rattle.builder.specs.Model.{state}
+use Rattle.builder.specs.States.{Moving}
+use Rattle.builder.specs.Packed.{packedTried}
+use Rattle.builder.proofs.Filter.{covers-idle}
+use Rattle.builder.proofs.visit.Statement.{statement}
+use Rattle.builder.proofs.visit.Tie as tie
+
+cast-h : tie.Need-cast-h
+cast-h c = search needs
+
+element-copy-out-if1 : tie.Need-element-copy-out-if1
+element-copy-out-if1 c = search needs
+
+returns : tie.Need-returns
+returns c =
+    let s = c .before .before .before .before in
+    let a = s .args in (
+      s .pre .0,
+      s .pre .1,
+      sym (covers-idle qubits (a .rs .now) (a .ns .now) (a .m) (a .filter .now) (a .p) (depth (entry (a .table .now) (a .p)) + 1) (state (a .table .now) (a .queue .now) (a .count)) (s .pre .3) (s .pre .4 .small) (c .if1 .taken)),
+    )
+
+entry-unchecked-requires : tie.Need-entry-unchecked-requires
+entry-unchecked-requires c κs = search needs
+
+add-turn : tie.Need-add-turn
+add-turn c = search needs
+
+turn-requires : tie.Need-turn-requires
+turn-requires c κs =
+    let e = c .before .before .before .before in
+    let s = e .before .before .before .before .before .before in
+    let a = s .args in
+    (s .pre .0, s .pre .1, s .pre .2, subst (λ (v : ℕ). Moving qubits (a .p) (depth v + 1) (state (a .table .now) (a .queue .now) (a .count))) (sym (e .entry-unchecked .ensures)) (s .pre .4))
+
+same-length : tie.Need-same-length
+same-length c = search needs
+
+same-length-2 : tie.Need-same-length-2
+same-length-2 c = search needs
+
+returns-2 : tie.Need-returns-2
+returns-2 c =
+    let t = c .before .before .before .before in
+    let e = t .before .before .before .before .before in
+    let a = e .before .before .before .before .before .before .args in (
+      t .turn .ensures .0,
+      t .turn .ensures .1,
+      t .turn .ensures .2 ∙ ap (λ (v : ℕ). inTurn (a .m) (packedTried qubits (a .rs .now) (a .ns .now) (a .p) (depth v + 1)) (state (a .table .now) (a .queue .now) (a .count))) (e .entry-unchecked .ensures),
+    )
+
+pub visit-spec : {M : Type 1} → statement M
+visit-spec =
+    tie.close
+    (tie.spec
+    cast-h
+    element-copy-out-if1
+    returns
+    entry-unchecked-requires
+    add-turn
+    turn-requires
+    same-length
+    same-length-2
+    returns-2)

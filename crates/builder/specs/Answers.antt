@@ -1,0 +1,47 @@
+-- What `build` answers, and what it leaves in the two buffers: 1 and 2 for their lengths, 3 for a pair that is none, and the buffers as they
+-- were; else the built table and queue, with the number of entries and the greatest depth counted in the table. Assumes nothing.
+use mathlib.Core.Bool.{cond, _&&_}
+use mathlib.Core.List.{List, [], _∷_}
+use Prim.Native.Nat.{ℕ}
+use Rattle.bicycle_common.specs.declared.Refusal.{Refusal}
+use Rattle.bicycle_common.specs.declared.Refusal.the-variants.{TableLength, QueueLength, Matrix}
+use Rattle.bicycle_common.specs.Refusals.{Told, answered, refused}
+use Rattle.measurement.specs.Matrices.{ofBytes, isBytes}
+use Rattle.measurement.specs.Measures.{nativeString}
+use Rattle.table.specs.Answers.{isTable, entries, deepest}
+use Rattle.builder.specs.declared.Built.{Built}
+use Rattle.builder.specs.declared.BuildAnswer.{BuildAnswer}
+use Rattle.builder.specs.declared.BuildAnswer.the-variants.{Is, Refused}
+use Rattle.builder.specs.Model.{State, built}
+
+-- the number of entries, the greatest depth
+abbrev pub toldBuild : BuildAnswer → Told
+toldBuild (Is b) = answered (b .entries ∷ b .depth ∷ [])
+toldBuild (Refused r) = refused 2 r
+
+-- the answer, and the bytes of both buffers afterwards
+pub record Outcome : Type 0 where
+  pub answer : BuildAnswer
+  pub table : List ℕ
+  pub queue : List ℕ
+
+abbrev pub outcome : BuildAnswer → List ℕ → List ℕ → Outcome
+outcome a t q = record { answer = a; table = t; queue = q }
+
+abbrev pub is : Built → BuildAnswer
+is b = Is b
+
+-- a table that was built, over q qubits
+abbrev pub done : ℕ → State → Outcome
+done q s = outcome (Is (record { entries = entries q (s .table); depth = deepest q (s .table) })) (s .table) (s .queue)
+
+-- of matrices of side s as bytes; t and u are the buffers before
+abbrev pub build : ℕ → ℕ → List ℕ → List ℕ → List ℕ → List ℕ → Outcome
+build q s t u mx my =
+    cond (isTable q t)
+    (cond (isTable q u)
+    (cond (isBytes s mx && isBytes s my)
+    (done q (built q (nativeString s (ofBytes s mx) (ofBytes s my))))
+    (outcome (Refused Matrix) t u))
+    (outcome (Refused QueueLength) t u))
+    (outcome (Refused TableLength) t u)

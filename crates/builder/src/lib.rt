@@ -1,0 +1,436 @@
+// The builder of the measurement table: breadth-first search over all strings, from the natives.
+//
+// From `MeasurementTableBuilder::new` and `build` in crates/bicycle_cliffords/src/decomposition.rs of the Bicycle
+// Architecture Compiler. Changed: written anew in Rattle, with contracts; the table and the strings in order of discovery
+// are lent bytes; the maps' walks run in native order; the search goes on until the queue is empty. In a turn only the
+// rotations that move the string are tried, and a filter skips turns that can find nothing; the contracts say nothing of
+// either. A call that ends in `_unchecked` is an inner one between our crates.
+//
+// Copyright contributors to the Bicycle Architecture Compiler project. Licensed under the Apache License, Version 2.0
+// (see NOTICE).
+use bicycle_common::Refusal;
+use pauli_string::PauliString;
+use table::TABLE_LENGTH;
+ghost use mathlib.Core.Path.{_≡_};
+ghost use mathlib.Core.Bool.{true};
+ghost use mathlib.Core.List.{List};
+ghost use Prim.Native.Nat.{ℕ, _+_, _*_, _/_, _%_, _^_, _<_, _≤_};
+ghost use lib.ListN.{length};
+ghost use lib.Bits.{bitAnd};
+ghost use lib.Count.{ones};
+ghost use Rattle.bicycle_common.specs.Ranges.{inTurn};
+ghost use Rattle.pauli_string.specs.Strings.{qubits, rotate};
+ghost use Rattle.native_measurement.specs.Natives.{natives};
+ghost use Rattle.measurement.specs.Matrices.{side, ofBytes, isBytes};
+ghost use Rattle.measurement.specs.Measures.{nativeString};
+ghost use Rattle.natives.specs.Arrays.{at};
+ghost use Rattle.table.specs.Bytes.{tableLength, entry};
+ghost use Rattle.table.specs.Entries.{depth, value, isRotation};
+ghost use Rattle.builder.specs.Model;
+ghost use Rattle.builder.specs.Model.{State, state, blank, seeded, expand, built};
+ghost use Rattle.builder.specs.Answers;
+ghost use Rattle.builder.specs.Answers.{outcome, done};
+ghost use Rattle.builder.specs.States.{Good, Asks, Moving};
+ghost use Rattle.builder.specs.Packed.{listedTried, packedTried, Rotations, Packed, Gathered};
+ghost use Rattle.builder.specs.Filter.{buckets, Covers, Rises, Marked};
+
+// What was built: the number of entries, identity included, and the greatest depth.
+pub struct Built {
+    pub entries: u32,
+    pub depth: u32,
+}
+
+pub enum BuildAnswer {
+    Is(Built),
+    Refused(Refusal),
+}
+
+// ---- one discovery
+
+// String x gets an entry, by native n at a depth, and a place in the queue, unless it has one. The answer is the count.
+fn discover(table: &mut [u8], queue: &mut [u8], count: u32, x: u32, depth: u32, n: u32) -> u32
+    requires { ⌜ Good qubits (state (now table) (now queue) count) × Asks qubits (state (now table) (now queue) count) x depth n ⌝ }
+    ensures { λ r. ⌜ state (now (table .exit)) (now (queue .exit)) r ≡ Model.discover x (value depth n) (state (now (table .entry)) (now (queue .entry)) count) ⌝ }
+{
+    let v = table::entry_unchecked(table, x);
+    if v == 0 {
+        table::put_unchecked(table, x, 1024 * depth + (n + 1));
+        table::put_unchecked(queue, count, x);
+        count + 1
+    } else {
+        count
+    }
+}
+
+// ---- the sources
+
+// Native n as a source, unless its string is the identity.
+fn seed(table: &mut [u8], queue: &mut [u8], strings: &[u32], n: usize, count: u32) -> u32
+    requires { ⌜ (n < natives) × (length (now strings) ≡ natives) × ((i : ℕ) → at (now strings) i < 4 ^ qubits) ⌝ }
+    requires { ⌜ Good qubits (state (now table) (now queue) count) ⌝ }
+    ensures { λ r. ⌜ state (now (table .exit)) (now (queue .exit)) r ≡ Model.seed (at (now (strings .entry))) n (state (now (table .entry)) (now (queue .entry)) count) ⌝ }
+{
+    let x = strings[n];
+    if x == 0 {
+        return count;
+    }
+    let k = natives::kept_number_unchecked(strings, x) as u32;
+    discover(table, queue, count, x, 0, k)
+}
+
+// All natives as sources, in native order.
+fn seeds(table: &mut [u8], queue: &mut [u8], strings: &[u32]) -> u32
+    requires { ⌜ (length (now strings) ≡ natives) × ((i : ℕ) → at (now strings) i < 4 ^ qubits) ⌝ }
+    requires { ⌜ state (now table) (now queue) 0 ≡ blank qubits ⌝ }
+    ensures { λ r. ⌜ state (now (table .exit)) (now (queue .exit)) r ≡ seeded qubits (at (now (strings .entry))) ⌝ }
+{
+    let mut c: u32 = 0;
+    let mut n: usize = 0;
+    while n < 540 {
+        c = seed(table, queue, strings, n, c);
+        n += 1;
+    }
+    c
+}
+
+// ---- the rotations, packed
+
+// Whether native n is kept and has pivot support.
+fn is_rotation(strings: &[u32], n: usize) -> bool
+    requires { ⌜ (n < natives) × (length (now strings) ≡ natives) ⌝ }
+    ensures { λ r. ⌜ r ≡ isRotation qubits (at (now (strings .entry))) n ⌝ }
+{
+    if natives::is_kept_unchecked(strings, n) {
+        return PauliString(strings[n]).has_pivot_support_unchecked();
+    }
+    false
+}
+
+// Native n, if it is a rotation, behind the m that are in front of rs, blanked, with its number in ns.
+fn pack_one(strings: &[u32], rs: &mut [u32; 540], ns: &mut [u32; 540], n: usize, m: usize) -> usize
+    requires { ⌜ (n < natives) × (length (now strings) ≡ natives) × ((i : ℕ) → at (now strings) i < 4 ^ qubits) ⌝ }
+    requires { ⌜ Packed qubits (at (now strings)) (now rs) (now ns) m n ⌝ }
+    ensures { λ r. ⌜ Packed qubits (at (now (strings .entry))) (now (rs .exit)) (now (ns .exit)) r (n + 1) ⌝ }
+{
+    if !is_rotation(strings, n) {
+        return m;
+    }
+    let r = PauliString(strings[n]).zero_pivot_unchecked();
+    rs[m] = r.0;
+    ns[m] = n as u32;
+    m + 1
+}
+
+// All rotations in front of rs, blanked, and their numbers in ns. The answer is their count.
+fn pack(strings: &[u32], rs: &mut [u32; 540], ns: &mut [u32; 540]) -> usize
+    requires { ⌜ (length (now strings) ≡ natives) × ((i : ℕ) → at (now strings) i < 4 ^ qubits) ⌝ }
+    requires { ⌜ Packed qubits (at (now strings)) (now rs) (now ns) 0 0 ⌝ }
+    ensures { λ r. ⌜ Packed qubits (at (now (strings .entry))) (now (rs .exit)) (now (ns .exit)) r natives ⌝ }
+{
+    let mut m: usize = 0;
+    let mut n: usize = 0;
+    while n < 540 {
+        m = pack_one(strings, rs, ns, n, m);
+        n += 1;
+    }
+    m
+}
+
+// ---- one turn
+
+// X and Z digits exchanged.
+fn transposed(p: u32) -> u32
+    requires { ⌜ p < 4 ^ qubits ⌝ }
+    ensures { λ r. ⌜ r ≡ p % 2 ^ qubits * 2 ^ qubits + p / 2 ^ qubits ⌝ }
+{
+    p % 4096 * 4096 + p / 4096
+}
+
+// 1 where the string of which t is the transposed anticommutes with r, else 0.
+fn odd(t: u32, r: u32) -> usize
+    ensures { λ d. ⌜ (d ≡ ones (bitAnd t r) % 2) × (d < 2) ⌝ }
+{
+    (u32::count_ones(t & r) % 2) as usize
+}
+
+// The strings to which one rotation moves p, in front of xs, with the rotations' numbers in gs. The answer is their
+// count. Every rotation is stored, and the next takes its place where it commutes: a branch would be a coin toss.
+fn gather(
+    p: u32,
+    rs: &[u32; 540],
+    ns: &[u32; 540],
+    m: usize,
+    xs: &mut [u32; 540],
+    gs: &mut [u32; 540],
+) -> usize
+    requires { ⌜ (p < 4 ^ qubits) × (length (now xs) ≡ natives) × (length (now gs) ≡ natives) × Rotations qubits (now rs) (now ns) m ⌝ }
+    ensures { λ k. ⌜ Gathered qubits p (now (rs .entry)) (now (ns .entry)) m (now (xs .exit)) (now (gs .exit)) k ⌝ }
+{
+    let t = transposed(p);
+    let mut k: usize = 0;
+    let mut i: usize = 0;
+    while i < m {
+        let r = rs[i];
+        xs[k] = p ^ r;
+        gs[k] = ns[i];
+        k += odd(t, r);
+        i += 1;
+    }
+    k
+}
+
+// The first k strings of xs, each discovered unless it has an entry.
+fn visits(
+    table: &mut [u8],
+    queue: &mut [u8],
+    xs: &[u32; 540],
+    gs: &[u32; 540],
+    k: usize,
+    depth: u32,
+    count: u32,
+) -> u32
+    requires { ⌜ (k ≤ natives) × Good qubits (state (now table) (now queue) count) ⌝ }
+    requires { ⌜ ((j : ℕ) → j < k → Asks qubits (state (now table) (now queue) count) (at (now xs) j) depth (at (now gs) j)) ⌝ }
+    ensures { λ r. ⌜ state (now (table .exit)) (now (queue .exit)) r ≡ inTurn k (listedTried (now (xs .entry)) (now (gs .entry)) depth) (state (now (table .entry)) (now (queue .entry)) count) ⌝ }
+{
+    let mut c = count;
+    let mut j: usize = 0;
+    while j < k {
+        c = discover(table, queue, c, xs[j], depth, gs[j]);
+        j += 1;
+    }
+    c
+}
+
+// The turn of p. xs and gs are scratch.
+fn turn(
+    table: &mut [u8],
+    queue: &mut [u8],
+    rs: &[u32; 540],
+    ns: &[u32; 540],
+    m: usize,
+    xs: &mut [u32; 540],
+    gs: &mut [u32; 540],
+    p: u32,
+    depth: u32,
+    count: u32,
+) -> u32
+    requires { ⌜ (length (now xs) ≡ natives) × (length (now gs) ≡ natives) × Rotations qubits (now rs) (now ns) m × Moving qubits p depth (state (now table) (now queue) count) ⌝ }
+    ensures { λ r. ⌜ (length (now (xs .exit)) ≡ natives) × (length (now (gs .exit)) ≡ natives) × (state (now (table .exit)) (now (queue .exit)) r ≡ inTurn m (packedTried qubits (now (rs .entry)) (now (ns .entry)) p depth) (state (now (table .entry)) (now (queue .entry)) count)) ⌝ }
+{
+    let k = gather(p, rs, ns, m, xs, gs);
+    visits(table, queue, xs, gs, k, depth, count)
+}
+
+// ---- the filter
+
+// The bucket of each string that leads to z.
+fn mark(z: u32, rs: &[u32; 540], m: usize, filter: &mut [u8; 262144])
+    requires { ⌜ (length (now filter) ≡ buckets) × (z < 4 ^ qubits) × (m ≤ natives) × ((i : ℕ) → at (now rs) i < 4 ^ qubits) ⌝ }
+    ensures { λ r. ⌜ (length (now (filter .exit)) ≡ buckets) × Rises (now (filter .entry)) (now (filter .exit)) × Marked qubits (now (rs .entry)) (now (filter .exit)) z m ⌝ }
+{
+    let mut i: usize = 0;
+    while i < m {
+        let x = PauliString(z).rotate_unchecked(PauliString(rs[i]));
+        let h = (x.0 % 262144) as usize;
+        filter[h] = 1;
+        i += 1;
+    }
+}
+
+// The same, if z is without an entry.
+fn mark_new(table: &[u8], z: u32, rs: &[u32; 540], m: usize, filter: &mut [u8; 262144])
+    requires { ⌜ (length (now filter) ≡ buckets) × (length (now table) ≡ tableLength qubits) × (z < 4 ^ qubits) × (m ≤ natives) × ((i : ℕ) → at (now rs) i < 4 ^ qubits) ⌝ }
+    ensures { λ r. ⌜ (length (now (filter .exit)) ≡ buckets) × Rises (now (filter .entry)) (now (filter .exit)) × (entry (now (table .entry)) z ≡ 0 → Marked qubits (now (rs .entry)) (now (filter .exit)) z m) ⌝ }
+{
+    if table::entry_unchecked(table, z) == 0 {
+        mark(z, rs, m, filter);
+    }
+}
+
+fn wipe(filter: &mut [u8; 262144])
+    requires { ⌜ length (now filter) ≡ buckets ⌝ }
+    ensures { λ r. ⌜ length (now (filter .exit)) ≡ buckets ⌝ }
+{
+    let mut j: usize = 0;
+    while j < 262144 {
+        filter[j] = 0;
+        j += 1;
+    }
+}
+
+// The filter anew: a bucket is 0 where none of its strings leads to a string without an entry.
+fn fill(table: &[u8], rs: &[u32; 540], m: usize, filter: &mut [u8; 262144])
+    requires { ⌜ (length (now filter) ≡ buckets) × (length (now table) ≡ tableLength qubits) × (m ≤ natives) × ((i : ℕ) → at (now rs) i < 4 ^ qubits) ⌝ }
+    ensures { λ r. ⌜ Covers qubits (now (rs .entry)) m (now (filter .exit)) (now (table .entry)) ⌝ }
+{
+    wipe(filter);
+    let mut z: u32 = 0;
+    while z < 16777216 {
+        mark_new(table, z, rs, m, filter);
+        z += 1;
+    }
+}
+
+// Now and then, once few strings are left, the filter is filled. The answer counts the turns since. When that is done
+// makes a difference to the time alone.
+fn refresh(
+    table: &[u8],
+    rs: &[u32; 540],
+    m: usize,
+    filter: &mut [u8; 262144],
+    p: u32,
+    since: u32,
+    count: u32,
+) -> u32
+    requires { ⌜ (length (now table) ≡ tableLength qubits) × (m ≤ natives) × ((i : ℕ) → at (now rs) i < 4 ^ qubits) × (since ≤ 65536) × Covers qubits (now rs) m (now filter) (now table) ⌝ }
+    ensures { λ r. ⌜ (r ≤ 65536) × Covers qubits (now (rs .entry)) m (now (filter .exit)) (now (table .entry)) ⌝ }
+{
+    let h = (p % 262144) as usize;
+    if filter[h] == 0 {
+        return since;
+    }
+    if since < 65536 {
+        return since + 1;
+    }
+    if count < 16646144 {
+        return since;
+    }
+    fill(table, rs, m, filter);
+    0
+}
+
+// The turn of p, unless the filter shows that it finds nothing.
+fn visit(
+    table: &mut [u8],
+    queue: &mut [u8],
+    rs: &[u32; 540],
+    ns: &[u32; 540],
+    m: usize,
+    xs: &mut [u32; 540],
+    gs: &mut [u32; 540],
+    filter: &[u8; 262144],
+    p: u32,
+    count: u32,
+) -> u32
+    requires { ⌜ (length (now xs) ≡ natives) × (length (now gs) ≡ natives) × Rotations qubits (now rs) (now ns) m × Covers qubits (now rs) m (now filter) (now table) × Moving qubits p (depth (entry (now table) p) + 1) (state (now table) (now queue) count) ⌝ }
+    ensures { λ r. ⌜ (length (now (xs .exit)) ≡ natives) × (length (now (gs .exit)) ≡ natives) × (state (now (table .exit)) (now (queue .exit)) r ≡ inTurn m (packedTried qubits (now (rs .entry)) (now (ns .entry)) p (depth (entry (now (table .entry)) p) + 1)) (state (now (table .entry)) (now (queue .entry)) count)) ⌝ }
+{
+    let h = (p % 262144) as usize;
+    if filter[h] == 0 {
+        return count;
+    }
+    let v = table::entry_unchecked(table, p);
+    turn(table, queue, rs, ns, m, xs, gs, p, v / 1024 + 1, count)
+}
+
+// ---- the search
+
+// The queue, place by place, with the rotations packed.
+fn scan(
+    table: &mut [u8],
+    queue: &mut [u8],
+    rs: &[u32; 540],
+    ns: &[u32; 540],
+    m: usize,
+    xs: &mut [u32; 540],
+    gs: &mut [u32; 540],
+    filter: &mut [u8; 262144],
+    count: u32,
+) -> u32
+    requires { ⌜ (length (now xs) ≡ natives) × (length (now gs) ≡ natives) × Rotations qubits (now rs) (now ns) m × Covers qubits (now rs) m (now filter) (now table) × Good qubits (state (now table) (now queue) count) ⌝ }
+    ensures { λ r. ⌜ ((f : ℕ → ℕ) → Packed qubits f (now (rs .entry)) (now (ns .entry)) m natives → state (now (table .exit)) (now (queue .exit)) r ≡ inTurn (4 ^ qubits) (expand qubits f) (state (now (table .entry)) (now (queue .entry)) count)) ⌝ }
+{
+    let mut c = count;
+    let mut i: u32 = 0;
+    let mut since: u32 = 0;
+    while i < c {
+        let p = table::entry_unchecked(queue, i);
+        since = refresh(table, rs, m, filter, p, since, c);
+        c = visit(table, queue, rs, ns, m, xs, gs, filter, p, c);
+        i += 1;
+    }
+    c
+}
+
+// All strings in order of discovery.
+fn search(table: &mut [u8], queue: &mut [u8], strings: &[u32], count: u32) -> u32
+    requires { ⌜ (length (now strings) ≡ natives) × ((i : ℕ) → at (now strings) i < 4 ^ qubits) ⌝ }
+    requires { ⌜ Good qubits (state (now table) (now queue) count) ⌝ }
+    ensures { λ r. ⌜ state (now (table .exit)) (now (queue .exit)) r ≡ inTurn (4 ^ qubits) (expand qubits (at (now (strings .entry)))) (state (now (table .entry)) (now (queue .entry)) count) ⌝ }
+{
+    let mut rs = [0u32; 540];
+    let mut ns = [0u32; 540];
+    let mut xs = [0u32; 540];
+    let mut gs = [0u32; 540];
+    let mut filter = [1u8; 262144];
+    let m = pack(strings, &mut rs, &mut ns);
+    scan(
+        table,
+        queue,
+        &rs,
+        &ns,
+        m,
+        &mut xs,
+        &mut gs,
+        &mut filter,
+        count,
+    )
+}
+
+// ---- the build
+
+// Both buffers cleared, and the identity's value at index 0.
+fn begin(table: &mut [u8], queue: &mut [u8])
+    requires { ⌜ (length (now table) ≡ tableLength qubits) × (length (now queue) ≡ tableLength qubits) ⌝ }
+    ensures { λ r. ⌜ state (now (table .exit)) (now (queue .exit)) 0 ≡ blank qubits ⌝ }
+{
+    table::clear_unchecked(table);
+    table::clear_unchecked(queue);
+    table::put_unchecked(table, 0, 541);
+}
+
+// The build from the natives' strings.
+fn build_from(table: &mut [u8], queue: &mut [u8], strings: &[u32]) -> Built
+    requires { ⌜ (length (now table) ≡ tableLength qubits) × (length (now queue) ≡ tableLength qubits) ⌝ }
+    requires { ⌜ (length (now strings) ≡ natives) × ((i : ℕ) → at (now strings) i < 4 ^ qubits) ⌝ }
+    ensures { λ r. ⌜ outcome (Answers.is r) (now (table .exit)) (now (queue .exit)) ≡ done qubits (built qubits (at (now (strings .entry)))) ⌝ }
+{
+    begin(table, queue);
+    let n = seeds(table, queue, strings);
+    let c = search(table, queue, strings, n);
+    let depth = table::deepest_unchecked(table);
+    Built {
+        entries: c + 1,
+        depth,
+    }
+}
+
+fn build_pair(table: &mut [u8], queue: &mut [u8], mx: &[u8], my: &[u8]) -> Built
+    requires { ⌜ (length (now table) ≡ tableLength qubits) × (length (now queue) ≡ tableLength qubits) ⌝ }
+    requires { ⌜ (isBytes side (now mx) ≡ true) × (isBytes side (now my) ≡ true) ⌝ }
+    ensures { λ r. ⌜ outcome (Answers.is r) (now (table .exit)) (now (queue .exit)) ≡ done qubits (built qubits (nativeString side (ofBytes side (now (mx .entry))) (ofBytes side (now (my .entry))))) ⌝ }
+{
+    let mut strings = [0u32; 540];
+    natives::strings_unchecked(mx, my, &mut strings);
+    build_from(table, queue, &strings)
+}
+
+// Builds the table of the pair, with all discovered strings in order in the queue.
+pub fn build(table: &mut [u8], queue: &mut [u8], mx: &[u8], my: &[u8]) -> BuildAnswer
+    ensures { λ r. ⌜ outcome r (now (table .exit)) (now (queue .exit)) ≡ Answers.build qubits side (now (table .entry)) (now (queue .entry)) (now (mx .entry)) (now (my .entry)) ⌝ }
+{
+    if table.len() != TABLE_LENGTH {
+        return BuildAnswer::Refused(Refusal::TableLength);
+    }
+    if queue.len() != TABLE_LENGTH {
+        return BuildAnswer::Refused(Refusal::QueueLength);
+    }
+    if !measurement::is_matrix(mx) {
+        return BuildAnswer::Refused(Refusal::Matrix);
+    }
+    if !measurement::is_matrix(my) {
+        return BuildAnswer::Refused(Refusal::Matrix);
+    }
+    BuildAnswer::Is(build_pair(table, queue, mx, my))
+}
