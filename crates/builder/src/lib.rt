@@ -74,8 +74,8 @@ fn seed(table: &mut [u8], queue: &mut [u8], strings: &[u32], n: usize, count: u3
     if x == 0 {
         return count;
     }
-    let k = natives::kept_number_unchecked(strings, x) as u32;
-    discover(table, queue, count, x, 0, k)
+    let k = natives::kept_number_unchecked(strings, x);
+    discover(table, queue, count, x, 0, k as u32)
 }
 
 // All natives as sources, in native order.
@@ -115,23 +115,25 @@ fn pack_one(strings: &[u32], rs: &mut [u32; 540], ns: &mut [u32; 540], n: usize,
     if !is_rotation(strings, n) {
         return m;
     }
-    let r = PauliString(strings[n]).zero_pivot_unchecked();
+    let string = strings[n];
+    let r = PauliString(string).zero_pivot_unchecked();
     rs[m] = r.0;
     ns[m] = n as u32;
     m + 1
 }
 
-// All rotations in front of rs, blanked, and their numbers in ns. The answer is their count.
+// All rotations in front of rs, blanked, in ascending number, and their numbers in ns. The answer is their count.
 fn pack(strings: &[u32], rs: &mut [u32; 540], ns: &mut [u32; 540]) -> usize
     requires { ⌜ (length (now strings) ≡ natives) × ((i : ℕ) → at (now strings) i < 4 ^ qubits) ⌝ }
     requires { ⌜ Packed qubits (at (now strings)) (now rs) (now ns) 0 0 ⌝ }
     ensures { λ r. ⌜ Packed qubits (at (now (strings .entry))) (now (rs .exit)) (now (ns .exit)) r natives ⌝ }
 {
     let mut m: usize = 0;
-    let mut n: usize = 0;
-    while n < 540 {
+    let mut left: usize = 540;
+    while 0 < left {
+        let n = 540 - left;
         m = pack_one(strings, rs, ns, n, m);
-        n += 1;
+        left -= 1;
     }
     m
 }
@@ -399,10 +401,10 @@ fn build_from(table: &mut [u8], queue: &mut [u8], strings: &[u32]) -> Built
     begin(table, queue);
     let n = seeds(table, queue, strings);
     let c = search(table, queue, strings, n);
-    let depth = table::deepest_unchecked(table);
+    let deepest = table::deepest_unchecked(table);
     Built {
         entries: c + 1,
-        depth,
+        depth: deepest,
     }
 }
 

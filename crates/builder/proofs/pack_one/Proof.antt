@@ -22,11 +22,11 @@ returns c =
     let a = s .args in
     packed-skip qubits (at (a .strings .now)) (a .rs .now) (a .ns .now) (a .m) (a .n) (sym (c .before .is-rotation .ensures) ∙ not-true (c .before .is-rotation .result) (c .if1 .taken)) (s .pre .1)
 
-mul-ns : tie.Need-mul-ns
-mul-ns c = search needs
+mul-string : tie.Need-mul-string
+mul-string c = search needs
 
-shared-slice-read-ns : tie.Need-shared-slice-read-ns
-shared-slice-read-ns c = search needs
+shared-slice-read-string : tie.Need-shared-slice-read-string
+shared-slice-read-string c = search needs
 
 zero-pivot-unchecked-requires : tie.Need-zero-pivot-unchecked-requires
 zero-pivot-unchecked-requires c κs = search needs
@@ -40,8 +40,8 @@ element-write-rs c = search needs
 cast-ns : tie.Need-cast-ns
 cast-ns c = search needs
 
-mul-ns-2 : tie.Need-mul-ns-2
-mul-ns-2 c = search needs
+mul-ns : tie.Need-mul-ns
+mul-ns c = search needs
 
 element-write-ns : tie.Need-element-write-ns
 element-write-ns c = search needs
@@ -65,13 +65,13 @@ pack-one-spec =
     (tie.spec
     is-rotation-requires
     returns
-    mul-ns
-    shared-slice-read-ns
+    mul-string
+    shared-slice-read-string
     zero-pivot-unchecked-requires
     mul-rs
     element-write-rs
     cast-ns
-    mul-ns-2
+    mul-ns
     element-write-ns
     add-result
     returns-2)

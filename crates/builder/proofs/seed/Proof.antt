@@ -1,15 +1,13 @@
 -- `builder::seed` meets its contract: a nonzero string is discovered at depth 0 with the number kept for it. Assumes nothing.
 use borrow.Author.Needs.{needs}
-use mathlib.Core.Path.{sym, ap, subst, _∙_}
+use mathlib.Core.Path.{sym, ap, _∙_}
 use Prim.Native.Nat.{ℕ}
 use native.Mathlib.Omega.{arith}
-use Rattle.pauli_string.specs.Strings.{qubits}
 use Rattle.natives.specs.Arrays.{at}
 use Rattle.natives.proofs.Kept.{keeper-for}
 use Rattle.table.specs.Entries.{value}
 use Rattle.builder.specs.Model.{state, discover}
-use Rattle.builder.specs.States.{Asks}
-use Rattle.builder.proofs.States.{seed-none, seed-some, seed-asks}
+use Rattle.builder.proofs.States.{seed-none, seed-some}
 use Rattle.builder.proofs.seed.Statement.{statement}
 use Rattle.builder.proofs.seed.Tie as tie
 
@@ -27,19 +25,21 @@ returns c =
 kept-number-unchecked-requires : tie.Need-kept-number-unchecked-requires
 kept-number-unchecked-requires c κs = search needs
 
-cast-k : tie.Need-cast-k
-cast-k c =
-    let s = c .before .before .before .before .before .before in
-    omega (arith, c .kept-number-unchecked .ensures, keeper-for (at (s .args .strings .now)) (s .args .n) (s .pre .0 .0) .below)
+cast-discover : tie.Need-cast-discover
+cast-discover c =
+    let s = c .before .before .before .before .before .before .before .before in
+    omega (arith, c .before .before .kept-number-unchecked .ensures, keeper-for (at (s .args .strings .now)) (s .args .n) (s .pre .0 .0) .below)
 
 discover-requires : tie.Need-discover-requires
 discover-requires c κs =
-    let k = c .before .before in
-    let s = k .before .before .before .before .before .before in
-    let a = s .args in
-    let w = state (a .table .now) (a .queue .now) (a .count) in
-    let f = at (a .strings .now) in
-    (s .pre .1, subst (λ (n : ℕ). Asks qubits w (f (a .n)) 0 n) (sym (k .kept-number-unchecked .ensures)) (seed-asks qubits f (a .n) w (s .pre .0 .2 (a .n)) (s .pre .0 .0)))
+    let s = c .before .before .before .before .before .before .before .before in (
+      s .pre .1,
+      record {
+        small = s .pre .0 .2 (s .args .n);
+        native-below = omega (arith, s .pre .0 .0, c .before .before .kept-number-unchecked .ensures, keeper-for (at (s .args .strings .now)) (s .args .n) (s .pre .0 .0) .below);
+        low = omega arith;
+      },
+    )
 
 same-length : tie.Need-same-length
 same-length c = search needs
@@ -66,7 +66,7 @@ seed-spec =
     shared-slice-read-x
     returns
     kept-number-unchecked-requires
-    cast-k
+    cast-discover
     discover-requires
     same-length
     same-length-2
