@@ -3,7 +3,7 @@
 use mathlib.Core.Path.{_≡_, refl, ap, _∙_, subst}
 use mathlib.Core.Bool.{Bool, true, false, Bool·beq, cond, _||_}
 use mathlib.Core.Logic.{_⊎_, ⊎-elim, inl, inr}
-use Prim.Native.Nat.{ℕ, _<_}
+use Prim.Native.Nat.{ℕ, _<_, _≤_}
 use native.Mathlib.Omega.{arith}
 use lib.Dec.{T, eqb, ltb, eqb→eq, ltb→lt}
 use borrow.Author.Tests.{eqb-true}
@@ -15,7 +15,7 @@ use Rattle.bicycle_common.specs.declared.LetterAnswer.{LetterAnswer}
 use Rattle.bicycle_common.specs.declared.LetterAnswer.the-variants.{Is, Refused}
 use Rattle.bicycle_common.specs.declared.Refusal.the-variants.{NotLetters}
 use Rattle.bicycle_common.specs.Bytes.{upper}
-use Rattle.bicycle_common.specs.Letters.{xOf, zOf, letter, rank, same, clash, anticommutingLetters, capital, small, standsFor, readLetter}
+use Rattle.bicycle_common.specs.Letters.{flag, xOf, zOf, letter, rank, same, clash, anticommutingLetters, capital, small, standsFor, readLetter}
 use Rattle.bicycle_common.proofs.Tests.{bits, at-bit, letters, at-letter}
 
 pub beq→eq : (a b : Bool) → T (Bool·beq a b) → a ≡ b
@@ -25,6 +25,10 @@ beq→eq false true t = absurd t
 beq→eq false false t = refl
 
 -- ---- digits
+
+pub flag-le : (b : Bool) → flag b ≤ 1
+flag-le true = omega arith
+flag-le false = omega arith
 
 pub xOf-lt : (l : Pauli) → xOf l < 2
 xOf-lt l = ltb→lt (xOf l) 2 (at-letter (λ a. ltb (xOf a) 2) tt l)

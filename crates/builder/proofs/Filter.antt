@@ -2,14 +2,12 @@
 -- with such turns skipped, comes to the model's state. Filling sets the bucket of every string that leads to one without an entry, since a
 -- rotation leads back. Assumes nothing.
 use mathlib.Core.Path.{_≡_, refl, sym, ap, subst, _∙_}
-use mathlib.Core.Bool.{Bool, cond}
 use mathlib.Core.List.{List}
 use Prim.Native.Nat.{ℕ, zero, suc, _+_, _-_, _%_, _^_, _≤_, _<_}
 use native.Mathlib.Omega.{arith}
 use native.Mathlib.Decide.{ℕ-discrete}
 use lib.ListN.{set, length, replicate, getD-replicate, length-replicate}
 use lib.Seq.{getD-set-same}
-use borrow.Author.Tests.{lt-ltb, le-ltb}
 use Rattle.bicycle_common.specs.Ranges.{inTurn}
 use Rattle.bicycle_common.proofs.Ranges.{stored-at, in-turn-none, in-turn-next}
 use Rattle.pauli_string.specs.Strings.{rotate}
@@ -19,10 +17,11 @@ use Rattle.natives.specs.Arrays.{at}
 use Rattle.shortest.specs.Graphs.{Has}
 use Rattle.table.specs.Bytes.{entry}
 use Rattle.table.specs.Entries.{depth}
-use Rattle.builder.specs.Model.{State, attempt, turn, expand}
+use Rattle.builder.specs.Model.{State, attempt, expand}
 use Rattle.builder.specs.States.{Fits, Good, Moving}
 use Rattle.builder.specs.Packed.{packedTried, Rotations, Packed}
 use Rattle.builder.specs.Filter.{buckets, bucket, Covers, Rises, Marked, Filled}
+use Rattle.builder.proofs.Model.{expand-turn, expand-idle}
 use Rattle.builder.proofs.States.{tried-keeps, tried-idle, tried-asks, moving-asks, rotate-beside, listed-moving, count-below}
 
 -- ---- what a filter shows
@@ -90,14 +89,6 @@ filled-covers q rs m filter t l small h = record {
 
 -- ---- the queue, place by place
 
-pub expand-here : (q : ℕ) (f : ℕ → ℕ) (i : ℕ) (s : State) → i < s .count → expand q f i s ≡ turn q f (entry (s .queue) i) s
-unfolding expand
-expand-here q f i s h = ap (λ (b : Bool). cond b (turn q f (entry (s .queue) i) s) s) (lt-ltb i (s .count) h)
-
-pub expand-behind : (q : ℕ) (f : ℕ → ℕ) (i : ℕ) (s : State) → s .count ≤ i → expand q f i s ≡ s
-unfolding expand
-expand-behind q f i s h = ap (λ (b : Bool). cond b (turn q f (entry (s .queue) i) s) s) (le-ltb i (s .count) h)
-
 -- behind the count nothing is done
 expand-stalls : (q : ℕ) (f : ℕ → ℕ) (s : State) (i k : ℕ) → inTurn i (expand q f) s .count ≤ i
     → inTurn (k + i) (expand q f) s ≡ inTurn i (expand q f) s
@@ -107,17 +98,16 @@ expand-stalls q f s i (suc k) h =
     let e : inTurn (k + i) (expand q f) s ≡ inTurn i (expand q f) s = expand-stalls q f s i k h in
     let z : suc k + i ≡ suc (k + i) = omega arith in
     ap (λ (n : ℕ). inTurn n (expand q f) s) z
-    ∙ expand-behind q f (k + i) (inTurn (k + i) (expand q f) s) (omega (arith, ap (λ (s : State). s .count) e))
+    ∙ expand-idle q f (k + i) (inTurn (k + i) (expand q f) s) (omega (arith, ap (λ (s : State). s .count) e))
     ∙ e
 
 -- the turn of a place is that of the packed rotations
 turn-packed : (q : ℕ) (f : ℕ → ℕ) (rs ns : List ℕ) (m i p : ℕ) (s : State) → Packed q f rs ns m natives → i < s .count → p ≡ entry (s .queue) i
     → inTurn m (packedTried q rs ns p (depth (entry (s .table) p) + 1)) s ≡ expand q f i s
 turn-packed q f rs ns m i p s h l z =
-    h .same p (depth (entry (s .table) p) + 1) s ∙ turns ∙ ap (λ (p : ℕ). turn q f p s) z ∙ sym (expand-here q f i s l)
-  where
-    turns : inTurn natives (attempt q f p (depth (entry (s .table) p) + 1)) s ≡ turn q f p s
-    turns = unfold turn in refl
+    h .same p (depth (entry (s .table) p) + 1) s
+    ∙ ap (λ (p : ℕ). inTurn natives (attempt q f p (depth (entry (s .table) p) + 1)) s) z
+    ∙ sym (expand-turn q f i s l)
 
 turn-good : (q : ℕ) (F : Fits q) (rs ns : List ℕ) (m p d : ℕ) (s : State) → Rotations q rs ns m → Moving q p d s
     → Good q (inTurn m (packedTried q rs ns p d) s)

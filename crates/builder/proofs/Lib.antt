@@ -1,4 +1,5 @@
 -- Laws that belong to no one function: the model keeps in range; the order of work makes no difference; what is built meets the rules.
+pub mod Model
 pub mod States
 pub mod Packed
 pub mod Filter

@@ -2,16 +2,14 @@
 -- build is one of the breadth-first search of the graph of strings, which ends, since fewer strings are found than there are. Assumes nothing.
 use mathlib.Core.Path.{_≡_, refl, sym, ap, subst, _∙_}
 use mathlib.Core.Logic.{⊎-elim}
-use mathlib.Core.Bool.{Bool, true, false, cond}
+use mathlib.Core.Bool.{Bool, true, false}
 use Prim.Native.Nat.{ℕ, _+_, _-_, _^_, _≤_, _<_}
 use native.Mathlib.Omega.{arith}
 use native.Mathlib.Decide.{ℕ-discrete}
 use lib.Dec.{T}
-use lib.Pow.{pow-pos}
-use borrow.Author.Tests.{eq-eqb, ne-eqb, lt-ltb, le-ltb}
 use Rattle.bicycle_common.specs.Ranges.{inTurn}
 use Rattle.bicycle_common.proofs.Ranges.{lt-or-ge, in-turn-all}
-use Rattle.pauli_string.proofs.Range.{four-pow}
+use Rattle.pauli_string.proofs.Range.{four-pos}
 use Rattle.native_measurement.specs.Natives.{natives}
 use Rattle.natives.specs.Kept.{keptFor}
 use Rattle.shortest.specs.Graphs.{Has, Rules, steps}
@@ -24,37 +22,12 @@ use Rattle.table.specs.Entries.{depth, value, identity, KeptFor, isRotation, Ro
 use Rattle.table.specs.Rules.{Rule}
 use Rattle.table.specs.Plans.{Nonzero, Base, graph, values, Plan}
 use Rattle.table.proofs.Bytes.{entry-put-same, entry-put-other, entry-zeros, length-zeros}
+use Rattle.table.proofs.Entries.{value-depth, value-names}
 use Rattle.table.proofs.Rules.{kept-for, rule}
-use Rattle.builder.specs.Model.{State, state, discover, blank, seed, attempt, turn as turnOf, expand, seeded, built}
+use Rattle.builder.specs.Model.{State, state, discover, blank, seed, attempt, expand, seeded, built}
 use Rattle.builder.specs.States.{Fits, Good, Asks, Moving}
-use Rattle.builder.proofs.States.{added, discover-new, discover-old, discover-keeps, value-depth, value-names, discovers, good-discover}
-use Rattle.builder.proofs.States.{moving-asks, rotate-beside, count-below, good-shallow, listed-moving, blank-good}
-
--- ---- the choices of the model
-
-seed-none : (f : ℕ → ℕ) (n : ℕ) (s : State) → f n ≡ 0 → seed f n s ≡ s
-unfolding seed
-seed-none f n s z = ap (λ (b : Bool). cond b s (discover (f n) (value 0 (keptFor f (f n))) s)) (eq-eqb (f n) 0 z)
-
-seed-some : (f : ℕ → ℕ) (n : ℕ) (s : State) → (f n ≡ 0 → ⊥) → seed f n s ≡ discover (f n) (value 0 (keptFor f (f n))) s
-unfolding seed
-seed-some f n s h = ap (λ (b : Bool). cond b s (discover (f n) (value 0 (keptFor f (f n))) s)) (ne-eqb (f n) 0 h)
-
-attempt-by : (q : ℕ) (f : ℕ → ℕ) (p d n : ℕ) (s : State) (b : Bool) → isRotation q f n ≡ b
-    → attempt q f p d n s ≡ cond b (discover (leads q f p n) (value d n) s) s
-unfolding attempt
-attempt-by q f p d n s b z = ap (λ (b : Bool). cond b (discover (leads q f p n) (value d n) s) s) z
-
-expand-turn : (q : ℕ) (f : ℕ → ℕ) (i : ℕ) (s : State) → i < s .count
-    → expand q f i s ≡ inTurn natives (attempt q f (entry (s .queue) i) (depth (entry (s .table) (entry (s .queue) i)) + 1)) s
-unfolding expand turnOf
-expand-turn q f i s l =
-    ap (λ (b : Bool). cond b (inTurn natives (attempt q f (entry (s .queue) i) (depth (entry (s .table) (entry (s .queue) i)) + 1)) s) s)
-    (lt-ltb i (s .count) l)
-
-expand-idle : (q : ℕ) (f : ℕ → ℕ) (i : ℕ) (s : State) → s .count ≤ i → expand q f i s ≡ s
-unfolding expand
-expand-idle q f i s l = ap (λ (b : Bool). cond b (turnOf q f (entry (s .queue) i) s) s) (le-ltb i (s .count) l)
+use Rattle.builder.proofs.Model.{added, discover-new, discover-old, discover-keeps, seed-none, seed-some, attempt-yes, attempt-no, expand-turn, expand-idle}
+use Rattle.builder.proofs.States.{discovers, good-discover, seed-asks, moving-asks, rotate-beside, count-below, good-shallow, listed-moving, blank-good}
 
 -- what the test says of a rotation
 rotation-none : (q : ℕ) (f : ℕ → ℕ) (n : ℕ) → isRotation q f n ≡ false → Rotation q f n → ⊥
@@ -70,13 +43,10 @@ record Tidy (s : State) : Type 0 where
 
 blank-tidy-at : (q n : ℕ) → n ≡ tableLength q → Tidy (state (put (zeros n) 0 identity) (zeros n) 0)
 blank-tidy-at q n z = record {
-  first = entry-put-same (zeros n) 0 identity (omega (arith, length-zeros n, z, some)) (omega arith);
+  first = entry-put-same (zeros n) 0 identity (omega (arith, length-zeros n, z, four-pos q)) (omega arith);
   rest = λ i h. entry-zeros n i;
   once = λ i j l h e. omega arith;
 }
-  where
-    some : 0 < 4 ^ q
-    some = subst (λ (n : ℕ). 0 < n) (sym (four-pow q)) (pow-pos (q + q))
 
 blank-tidy : (q : ℕ) → Tidy (blank q)
 unfolding blank
@@ -147,15 +117,11 @@ module _ (q : ℕ) (F : Fits q) (f : ℕ → ℕ) (small : (n : ℕ) → f n < 4
   blank-seeding : Seeding q f small 0 (blank q)
   blank-seeding = record { good = blank-good q; tidy = blank-tidy q; search = unfold blank in blank-search (tableLength q) }
 
-  -- what a source asks
-  seed-asks : (n : ℕ) (s : State) → n < natives → Asks q s (f n) 0 (keptFor f (f n))
-  seed-asks n s l = record { small = small n; native-below = kept-for f (f n) n l refl .below; low = omega arith }
-
   seed-finds : (n : ℕ) (s : State) → n < natives → Seeding q f small n s → (f n ≡ 0 → ⊥) → entry (s .table) (f n) ≡ 0
       → At q f small (sources (n + 1)) (added (f n) (value 0 (keptFor f (f n))) s)
   seed-finds n s l t h z =
       let m : KeptFor f (f n) (keptFor f (f n)) = kept-for f (f n) n l refl in
-      new-source (t .search) (discovers q F s (t .good) (f n) 0 (keptFor f (f n)) (seed-asks n s l) z)
+      new-source (t .search) (discovers q F s (t .good) (f n) 0 (keptFor f (f n)) (seed-asks q f n s (small n) l) z)
       (record { string = record { below = small n; some = h }; keeps = m })
       (value-names 0 (keptFor f (f n)) (m .below)) (value-depth 0 (keptFor f (f n)) (m .below)) (λ p b. sym (b .keeps .measures))
 
@@ -176,8 +142,8 @@ module _ (q : ℕ) (F : Fits q) (f : ℕ → ℕ) (small : (n : ℕ) → f n < 4
       discovered : (f n ≡ 0 → ⊥) → Seeding q f small (n + 1) (discover (f n) (value 0 (keptFor f (f n))) s)
       discovered h = elim (ℕ-discrete (entry (s .table) (f n)) 0) [
         | yes z ↦ record {
-          good = good-discover q F s (f n) 0 m (t .good) (seed-asks n s l);
-          tidy = tidy-discover q F s (t .good) (f n) 0 m (seed-asks n s l) (t .tidy);
+          good = good-discover q F s (f n) 0 m (t .good) (seed-asks q f n s (small n) l);
+          tidy = tidy-discover q F s (t .good) (f n) 0 m (seed-asks q f n s (small n) l) (t .tidy);
           search = subst (At q f small (sources (n + 1))) (sym (discover-new s (f n) (value 0 m) z)) (seed-finds n s l t h z);
         }
         | no g ↦ seed-known n s (discover (f n) (value 0 m) s) t (discover-old s (f n) (value 0 m) g)
@@ -209,8 +175,8 @@ module _ (q : ℕ) (F : Fits q) (f : ℕ → ℕ) (small : (n : ℕ) → f n < 4
   moving-attempt p d n l s t = go (isRotation q f n) refl
     where
       go : (b : Bool) → isRotation q f n ≡ b → Moving q p d (attempt q f p d n s)
-      go true z = subst (Moving q p d) (sym (attempt-by q f p d n s true z)) (moving-discover p d (leads q f p n) n s (lead-asks p d n s l t) t)
-      go false z = subst (Moving q p d) (sym (attempt-by q f p d n s false z)) t
+      go true z = subst (Moving q p d) (sym (attempt-yes q f p d n s z)) (moving-discover p d (leads q f p n) n s (lead-asks p d n s l t) t)
+      go false z = subst (Moving q p d) (sym (attempt-no q f p d n s z)) t
 
   pub expand-good : (i : ℕ) (s : State) → Good q s → Good q (expand q f i s)
   expand-good i s g = ⊎-elim
@@ -280,9 +246,9 @@ module _ (q : ℕ) (F : Fits q) (f : ℕ → ℕ) (small : (n : ℕ) → f n < 4
 
         go : (b : Bool) → isRotation q f n ≡ b → Turning q f small i p d (n + 1) (attempt q f p d n s)
         go true z =
-            subst (Turning q f small i p d (n + 1)) (sym (attempt-by q f p d n s true z)) (discovered (record { below = l; is-rotation = z }))
+            subst (Turning q f small i p d (n + 1)) (sym (attempt-yes q f p d n s z)) (discovered (record { below = l; is-rotation = z }))
         go false z =
-            turn-passes (attempt q f p d n s) (attempt-by q f p d n s false z) (λ r. absurd (rotation-none q f n z r))
+            turn-passes (attempt q f p d n s) (attempt-no q f p d n s z) (λ r. absurd (rotation-none q f n z r))
 
   -- ---- the places of the queue
 

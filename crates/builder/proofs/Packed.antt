@@ -2,13 +2,12 @@
 -- rotation does nothing, and a rotation that commutes leads to the string itself, which has an entry. Each store leaves the front alone.
 -- Assumes nothing.
 use mathlib.Core.Path.{_≡_, refl, sym, ap, ap₂, subst, _∙_}
-use mathlib.Core.Bool.{Bool, true, false, cond}
+use mathlib.Core.Bool.{true, false}
 use mathlib.Core.List.{List}
-use Prim.Native.Nat.{ℕ, _+_, _%_, _^_, _≤_, _<_}
+use Prim.Native.Nat.{ℕ, _+_, _%_, _^_, _<_}
 use native.Mathlib.Omega.{arith}
 use native.Mathlib.Decide.{ℕ-discrete}
 use lib.Bits.{bitXor}
-use lib.Dec.{eqb}
 use lib.ListN.{length, set, replicate, length-set}
 use lib.Seq.{getD-set-same, getD-set-other}
 use borrow.Author.Tests.{eq-eqb, ne-eqb}
@@ -17,6 +16,7 @@ use Rattle.bicycle_common.proofs.Ranges.{stored-at, in-turn-none, in-turn-next,
 use Rattle.pauli_string.specs.Strings.{clashes, commute, conj, rotate}
 use Rattle.pauli_string.specs.Strings as Strings
 use Rattle.pauli_string.proofs.Commutation.{conj-commuting, conj-anti}
+use Rattle.pauli_string.proofs.Range.{four-pos}
 use Rattle.pauli_string.proofs.Pivot.{blank-le, blank-blank}
 use Rattle.native_measurement.specs.Natives.{natives}
 use Rattle.natives.specs.Arrays.{at}
@@ -27,21 +27,14 @@ use Rattle.table.proofs.Bytes.{getD-zeros, length-zeros}
 use Rattle.builder.specs.Model.{State, discover, attempt}
 use Rattle.builder.specs.States.{Fits}
 use Rattle.builder.specs.Packed.{tried, listedTried, packedTried, Rotations, Packed, Beside, Gathered}
-use Rattle.builder.proofs.States.{discover-old, tried-keeps, rotate-beside}
+use Rattle.builder.proofs.Model.{discover-old, attempt-yes, attempt-no}
+use Rattle.builder.proofs.States.{tried-keeps, rotate-beside}
 
 -- the same strings and numbers, tried in turn
 pub tried-same : (x y m n : ℕ → ℕ) (d k : ℕ) (s : State) → ((j : ℕ) → j < k → x j ≡ y j) → ((j : ℕ) → j < k → m j ≡ n j)
     → inTurn k (tried x m d) s ≡ inTurn k (tried y n d) s
 tried-same x y m n d k s hx hm =
     in-turn-same k (tried x m d) (tried y n d) s (λ j l a. ap₂ (λ (x n : ℕ). discover x (value d n) a) (hx j l) (hm j l))
-
-pub attempt-yes : (q : ℕ) (f : ℕ → ℕ) (p d n : ℕ) (s : State) → isRotation q f n ≡ true → attempt q f p d n s ≡ discover (leads q f p n) (value d n) s
-unfolding attempt
-attempt-yes q f p d n s e = ap (λ (b : Bool). cond b (discover (leads q f p n) (value d n) s) s) e
-
-pub attempt-no : (q : ℕ) (f : ℕ → ℕ) (p d n : ℕ) (s : State) → isRotation q f n ≡ false → attempt q f p d n s ≡ s
-unfolding attempt
-attempt-no q f p d n s e = ap (λ (b : Bool). cond b (discover (leads q f p n) (value d n) s) s) e
 
 -- ---- packing
 
@@ -53,13 +46,13 @@ blank-zero : (q r : ℕ) → r ≡ 0 → Strings.blank q r ≡ r
 blank-zero q r z = omega (arith, blank-le q r)
 
 packed-none : (q : ℕ) (F : Fits q) (f : ℕ → ℕ) (rs ns : List ℕ) → length rs ≡ natives → length ns ≡ natives → ((i : ℕ) → at rs i ≡ 0)
-    → ((i : ℕ) → at ns i ≡ 0) → 0 < 4 ^ q → Packed q f rs ns 0 0
-packed-none q F f rs ns lr ln hr hn some = record {
+    → ((i : ℕ) → at ns i ≡ 0) → Packed q f rs ns 0 0
+packed-none q F f rs ns lr ln hr hn = record {
   rotations = record {
     long-r = lr;
     long-n = ln;
     few = omega arith;
-    small = λ i. omega (arith, hr i);
+    small = λ i. omega (arith, hr i, four-pos q);
     blanked = λ i. blank-zero q (at rs i) (hr i);
     native-below = λ i. omega (arith, hn i);
   };
@@ -67,11 +60,11 @@ packed-none q F f rs ns lr ln hr hn some = record {
   same = λ p d s. in-turn-none (packedTried q rs ns p d) s ∙ sym (in-turn-none (attempt q f p d) s);
 }
 
-packed-zeros : (q : ℕ) (F : Fits q) (f : ℕ → ℕ) (n : ℕ) → n ≡ natives → 0 < 4 ^ q → Packed q f (zeros n) (zeros n) 0 0
-packed-zeros q F f n z some = packed-none q F f (zeros n) (zeros n) (length-zeros n ∙ z) (length-zeros n ∙ z) (getD-zeros n) (getD-zeros n) some
+packed-zeros : (q : ℕ) (F : Fits q) (f : ℕ → ℕ) (n : ℕ) → n ≡ natives → Packed q f (zeros n) (zeros n) 0 0
+packed-zeros q F f n z = packed-none q F f (zeros n) (zeros n) (length-zeros n ∙ z) (length-zeros n ∙ z) (getD-zeros n) (getD-zeros n)
 
-pub packed-fresh : (q : ℕ) (F : Fits q) (f : ℕ → ℕ) → 0 < 4 ^ q → Packed q f (replicate natives 0) (replicate natives 0) 0 0
-packed-fresh q F f some = unfold zeros in packed-zeros q F f natives refl some
+pub packed-fresh : (q : ℕ) (F : Fits q) (f : ℕ → ℕ) → Packed q f (replicate natives 0) (replicate natives 0) 0 0
+packed-fresh q F f = unfold zeros in packed-zeros q F f natives refl
 
 pub packed-skip : (q : ℕ) (f : ℕ → ℕ) (rs ns : List ℕ) (m k : ℕ) → isRotation q f k ≡ false → Packed q f rs ns m k → Packed q f rs ns m (k + 1)
 packed-skip q f rs ns m k e h = record {

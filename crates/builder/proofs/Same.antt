@@ -1,5 +1,5 @@
 -- The model reads only the strings of the natives: two functions that agree on these build the same. Assumes nothing.
-use mathlib.Core.Path.{_≡_, refl, sym, ap, ap₂, _∙_}
+use mathlib.Core.Path.{_≡_, refl, ap, ap₂, _∙_}
 use mathlib.Core.Bool.{Bool, cond, _&&_}
 use Prim.Native.Nat.{ℕ, zero, suc, _+_, _^_, _<_, _≤_}
 use native.Mathlib.Omega.{arith}
@@ -8,7 +8,7 @@ use Rattle.bicycle_common.specs.Ranges.{inTurn}
 use Rattle.bicycle_common.proofs.Ranges.{in-turn-same}
 use Rattle.pauli_string.specs.Strings.{hasPivot, rotate}
 use Rattle.native_measurement.specs.Natives.{natives}
-use Rattle.natives.specs.Kept.{kept, keptBelow, keptFor}
+use Rattle.natives.specs.Kept.{keptBelow, keptFor}
 use Rattle.natives.proofs.Kept.{kept-same}
 use Rattle.table.specs.Bytes.{entry}
 use Rattle.table.specs.Entries.{depth, value}

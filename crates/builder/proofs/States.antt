@@ -1,16 +1,12 @@
 -- A discovery keeps a build in range: the queue has room, and the value fits into four bytes, since a string without an entry is still to be
 -- counted. So do discoveries in turn. Assumes nothing.
-use mathlib.Core.Path.{_≡_, refl, sym, ap, ap₂, subst, _∙_}
-use mathlib.Core.Bool.{Bool, cond}
-use mathlib.Core.List.{List}
-use Prim.Native.Nat.{ℕ, zero, suc, _+_, _-_, _*_, _/_, _^_, _≤_, _<_}
+use mathlib.Core.Path.{_≡_, refl, sym, ap, subst, _∙_}
+use Prim.Native.Nat.{ℕ, zero, suc, _+_, _-_, _^_, _≤_, _<_}
 use native.Mathlib.Omega.{arith}
 use native.Mathlib.Decide.{ℕ-discrete}
-use lib.Pow.{pow-pos}
-use borrow.Author.Tests.{eq-eqb, ne-eqb}
 use Rattle.bicycle_common.specs.Ranges.{inTurn}
 use Rattle.pauli_string.specs.Strings.{pivotBits, rotate}
-use Rattle.pauli_string.proofs.Range.{four-pow}
+use Rattle.pauli_string.proofs.Range.{four-pos}
 use Rattle.pauli_string.proofs.Pivot.{rotate-string, rotate-pivot-bits}
 use Rattle.native_measurement.specs.Natives.{natives}
 use Rattle.natives.specs.Kept.{keptFor}
@@ -20,49 +16,14 @@ use Rattle.shortest.specs.Search.{Found}
 use Rattle.shortest.specs.Counts.{inClass}
 use Rattle.shortest.proofs.Counts.{entries-below, room, class-room, class-grows, counted-more, counted-start, shallow}
 use Rattle.table.specs.Bytes.{tableLength, entry, put, zeros}
-use Rattle.table.specs.Entries.{depth, Names, value, identity}
+use Rattle.table.specs.Entries.{depth, value, identity}
 use Rattle.table.specs.Answers.{entries}
+use Rattle.table.proofs.Entries.{value-some, value-depth, value-lt}
 use Rattle.table.proofs.Bytes.{length-put, entry-put-same, entry-put-other, entry-zeros, length-zeros}
 use Rattle.builder.specs.Model.{State, state, discover, blank, seed}
+use Rattle.builder.proofs.Model.{added, discover-new, discover-old, discover-keeps, seed-none, seed-some}
 use Rattle.builder.specs.States.{classes, Fits, alike, Good, Asks, Moving}
 use Rattle.builder.specs.Packed.{tried, Beside}
-
--- ---- one discovery
-
--- table and queue with x discovered
-abbrev pub added : ℕ → ℕ → State → State
-added x v s = state (put (s .table) x v) (put (s .queue) (s .count) x) (s .count + 1)
-
-pub discover-new : (s : State) (x v : ℕ) → entry (s .table) x ≡ 0 → discover x v s ≡ added x v s
-unfolding discover
-discover-new s x v z = ap (λ (b : Bool). cond b (added x v s) s) (eq-eqb (entry (s .table) x) 0 z)
-
-pub discover-old : (s : State) (x v : ℕ) → Has (entry (s .table)) x → discover x v s ≡ s
-unfolding discover
-discover-old s x v h = ap (λ (b : Bool). cond b (added x v s) s) (ne-eqb (entry (s .table) x) 0 h)
-
--- what has an entry keeps it
-pub discover-keeps : (s : State) (x v p : ℕ) → Has (entry (s .table)) p → entry (discover x v s .table) p ≡ entry (s .table) p
-discover-keeps s x v p h = elim (ℕ-discrete (entry (s .table) x) 0) [
-  | yes z ↦ ap (λ (s : State). entry (s .table) p) (discover-new s x v z) ∙ entry-put-other (s .table) x v p (λ w. h (ap (entry (s .table)) w ∙ z))
-  | no f ↦ ap (λ (s : State). entry (s .table) p) (discover-old s x v f)
-]
-
-pub value-some : (d n : ℕ) → value d n ≡ 0 → ⊥
-unfolding value
-value-some d n z = omega arith
-
-pub value-depth : (d n : ℕ) → n < natives → depth (value d n) ≡ d
-unfolding value
-value-depth d n h = omega arith
-
-pub value-names : (d n : ℕ) → n < natives → Names (value d n) n
-unfolding value
-value-names d n h = omega arith
-
-value-lt : (d n b : ℕ) → n < natives → d < b → value d n < 1024 * b
-unfolding value
-value-lt d n b h l = omega arith
 
 module _ (q : ℕ) (F : Fits q) (s : State) (g : Good q s) (x d n : ℕ) (a : Asks q s x d n) (fresh : entry (s .table) x ≡ 0) where
   -- the queue has room for one more
@@ -190,25 +151,14 @@ blank-at q n z = record {
   queue-long = length-zeros n ∙ z;
   counted =
       counted-start (classes q) depth (entry (zeros n)) (entry (put (zeros n) 0 identity)) (entry (zeros n)) identity
-      (entry-zeros n) (entry-put-same (zeros n) 0 identity (omega (arith, length-zeros n, z, some)) (omega arith)) (λ y. omega arith) (omega arith) (λ p h. entry-put-other (zeros n) 0 identity p h) some;
+      (entry-zeros n) (entry-put-same (zeros n) 0 identity (omega (arith, length-zeros n, z, four-pos q)) (omega arith)) (λ y. omega arith) (omega arith) (λ p h. entry-put-other (zeros n) 0 identity p h) (four-pos q);
 }
-  where
-    some : 0 < 4 ^ q
-    some = subst (λ (n : ℕ). 0 < n) (sym (four-pow q)) (pow-pos (q + q))
 
 pub blank-good : (q : ℕ) → Good q (blank q)
 unfolding blank
 blank-good q = blank-at q (tableLength q) refl
 
 -- ---- one source
-
-pub seed-none : (f : ℕ → ℕ) (n : ℕ) (s : State) → f n ≡ 0 → seed f n s ≡ s
-unfolding seed
-seed-none f n s z = ap (λ (b : Bool). cond b s (discover (f n) (value 0 (keptFor f (f n))) s)) (eq-eqb (f n) 0 z)
-
-pub seed-some : (f : ℕ → ℕ) (n : ℕ) (s : State) → (f n ≡ 0 → ⊥) → seed f n s ≡ discover (f n) (value 0 (keptFor f (f n))) s
-unfolding seed
-seed-some f n s h = ap (λ (b : Bool). cond b s (discover (f n) (value 0 (keptFor f (f n))) s)) (ne-eqb (f n) 0 h)
 
 pub seed-asks : (q : ℕ) (f : ℕ → ℕ) (n : ℕ) (s : State) → f n < 4 ^ q → n < natives → Asks q s (f n) 0 (keptFor f (f n))
 seed-asks q f n s h l = record { small = h; native-below = keeper-for f n l .below; low = omega arith }

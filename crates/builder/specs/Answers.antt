@@ -3,7 +3,6 @@
 use mathlib.Core.Bool.{cond, _&&_}
 use mathlib.Core.List.{List, [], _∷_}
 use Prim.Native.Nat.{ℕ}
-use Rattle.bicycle_common.specs.declared.Refusal.{Refusal}
 use Rattle.bicycle_common.specs.declared.Refusal.the-variants.{TableLength, QueueLength, Matrix}
 use Rattle.bicycle_common.specs.Refusals.{Told, answered, refused}
 use Rattle.measurement.specs.Matrices.{ofBytes, isBytes}

@@ -1,5 +1,4 @@
 -- What keeps a build in range: the lengths of the buffers, and the counts of entries, in all and for one pivot letter. Assumes nothing.
-use mathlib.Core.List.{List}
 use mathlib.Core.Path.{_≡_}
 use Prim.Native.Nat.{ℕ, _+_, _-_, _*_, _^_, _≤_, _<_}
 use lib.Dec.{lit<, lit≤}

@@ -15,6 +15,7 @@ use Rattle.bicycle_common.specs.Letters.{flag}
 use Rattle.bicycle_common.specs.Automorphisms.{component}
 use Rattle.bicycle_common.specs.Ranges.{sum, allBelow}
 use Rattle.bicycle_common.proofs.Ranges.{sum-same, all-below, all-true, all-false, all-same, length-from, listed-at}
+use Rattle.bicycle_common.proofs.Letters.{flag-le}
 use Rattle.measurement.specs.Matrices.{side, Matrix, ofRows, byRows, ofBytes, one, mul, pow, isBinary, isBytes, Binary, Same}
 use Rattle.measurement.specs.Measures.{action, packed}
 
@@ -33,10 +34,6 @@ same-binary s p h i k hi hk = rw (p i k hi hk) (h i k hi hk)
 
 pub product-le : (a b : ℕ) → a ≤ 1 → b ≤ 1 → a * b ≤ 1
 product-le a b ha hb = mul-le-mul ha hb
-
-pub flag-le : (b : Bool) → flag b ≤ 1
-flag-le true = omega arith
-flag-le false = omega arith
 
 -- a yes or no, as a number
 pub byte-flag : (b : Bool) → boolByte b ≡ flag b

@@ -13,7 +13,7 @@ use borrow.Author.Tests.{eqb-true, eqb-false, eq-eqb, ne-eqb}
 use Rattle.bicycle_common.specs.Letters.{flag}
 use Rattle.bicycle_common.proofs.Ranges.{lt-or-ge, stored-at, sum-next, sum-le, sum-first, sum-terms-zero, sum-pos}
 use Rattle.bicycle_common.specs.Ranges.{sum}
-use Rattle.measurement.proofs.Matrices.{flag-le}
+use Rattle.bicycle_common.proofs.Letters.{flag-le}
 use Rattle.native_measurement.specs.Natives.{natives}
 use Rattle.natives.specs.Kept.{kept}
 use Rattle.natives.specs.Arrays.{at}

@@ -1,10 +1,10 @@
 -- Which numbers are strings of q letters. Assumes nothing.
-use mathlib.Core.Path.{_≡_, refl, sym, ap, _∙_}
+use mathlib.Core.Path.{_≡_, refl, sym, ap, subst, _∙_}
 use mathlib.Core.Bool.{true, false}
 use Prim.Native.Nat.{ℕ, zero, suc, _+_, _*_, _^_, _≤_, _<_}
 use native.Mathlib.Nat.{pow-suc}
 use native.Mathlib.Omega.{arith}
-use lib.Pow.{pow-add}
+use lib.Pow.{pow-add, pow-pos}
 use borrow.Author.Tests.{lt-ltb, le-ltb}
 use Rattle.pauli_string.specs.Strings.{isString}
 
@@ -20,3 +20,7 @@ four-pow zero = refl
 four-pow (suc q) =
     let e : suc q + suc q ≡ q + q + 2 = omega arith in
     pow-suc 4 q ∙ ap (λ (m : ℕ). m * 4) (four-pow q) ∙ sym (pow-add 2 (q + q) 2) ∙ ap (λ (k : ℕ). 2 ^ k) (sym e)
+
+-- there is a string
+pub four-pos : (q : ℕ) → 0 < 4 ^ q
+four-pos q = subst (λ (n : ℕ). 0 < n) (sym (four-pow q)) (pow-pos (q + q))

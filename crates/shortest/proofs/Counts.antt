@@ -1,6 +1,6 @@
 -- What keeps a search in range: a vertex without a label leaves room among all labels and among those of its class, and a discovery keeps
 -- the counts. By comparing sums term by term. Assumes nothing.
-use mathlib.Core.Bool.{Bool, true, false, not}
+use mathlib.Core.Bool.{Bool, not}
 use mathlib.Core.Logic.{⊎-elim}
 use mathlib.Core.Path.{_≡_, refl, sym, ap, subst, _∙_}
 use Prim.Native.Nat.{ℕ, _+_, _≤_, _<_}
@@ -9,6 +9,7 @@ use native.Mathlib.Omega.{arith}
 use lib.Dec.{eqb}
 use borrow.Author.Tests.{eq-eqb, ne-eqb}
 use Rattle.bicycle_common.specs.Letters.{flag}
+use Rattle.bicycle_common.proofs.Letters.{flag-le}
 use Rattle.bicycle_common.proofs.Ranges.{sum-next, sum-zero, sum-mono, sum-le, sum-less, sum-more, sum-lacks}
 use Rattle.shortest.specs.Graphs.{Has}
 use Rattle.shortest.specs.Search.{Found}
@@ -16,10 +17,6 @@ use Rattle.shortest.specs.Counts.{Classes, labelled, entriesIn, inClass,
 use Rattle.shortest.proofs.Search.{stays-has, found-has, queue-cases}
 
 -- ---- one label
-
-flag-le : (b : Bool) → flag b ≤ 1
-flag-le true = omega arith
-flag-le false = omega arith
 
 pub labelled-le : (e : ℕ → ℕ) (p : ℕ) → labelled e p ≤ 1
 labelled-le e p = flag-le (not (eqb (e p) 0))

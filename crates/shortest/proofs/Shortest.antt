@@ -1,7 +1,7 @@
 -- A labelling that meets the local rules is shortest: no walk is cheaper than the label of where it ends, by induction over the walk, and a
 -- label is the cost of a walk, by induction over the cost. Assumes nothing.
 use mathlib.Core.Path.{_≡_, sym, ap, subst}
-use mathlib.Core.Logic.{_⊎_, ⊎-elim}
+use mathlib.Core.Logic.{⊎-elim}
 use Prim.Native.Nat.{ℕ, zero, suc, _+_, _≤_, _<_}
 use native.Mathlib.Omega.{arith}
 use Rattle.shortest.specs.Graphs.{Graph, Costs, Walk, start, step, Labels, Has, Made, Rules}

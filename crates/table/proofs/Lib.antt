@@ -1,3 +1,4 @@
--- Laws of a table's bytes, and of the rule of each index.
+-- Laws of a table's bytes and values, and of the rule of each index.
 pub mod Bytes
+pub mod Entries
 pub mod Rules

@@ -1,18 +1,17 @@
 -- A table meets the rule at every index exactly when its values, as labels of the graph of strings, meet the local rules of a shortest
 -- labelling and index 0 holds 541. A native string is told from another by the number kept for it. Assumes nothing.
-use mathlib.Core.Path.{_≡_, refl, sym, ap, subst, _∙_}
+use mathlib.Core.Path.{_≡_, sym, ap, subst, _∙_}
 use mathlib.Core.Logic.{_⊎_, inl, inr, ⊎-elim}
-use mathlib.Core.Bool.{Bool, true}
-use Prim.Native.Nat.{ℕ, _+_, _-_, _/_, _%_, _^_, _≤_, _<_}
+use Prim.Native.Nat.{ℕ, _+_, _^_, _≤_, _<_}
 use native.Mathlib.Nat.{le-antisymm}
 use native.Mathlib.Omega.{arith, by-contra}
 use native.Mathlib.Decide.{ℕ-discrete, decLt}
 use Rattle.native_measurement.specs.Natives.{natives}
-use Rattle.natives.specs.Kept.{kept, keptFor, Keeper}
+use Rattle.natives.specs.Kept.{keptFor, Keeper}
 use Rattle.natives.proofs.Kept.{keeper-for, kept-for-string, kept-sound}
 use Rattle.shortest.specs.Graphs.{Has, Made, Rules, steps}
-use Rattle.table.specs.Entries.{depth, field, Names, identity, KeptFor, Rotation, leads}
-use Rattle.table.specs.Rules.{NoNative, Down, Deep, Without, Rule}
+use Rattle.table.specs.Entries.{depth, Names, identity, KeptFor, Rotation, leads}
+use Rattle.table.specs.Rules.{NoNative, Deep, Without, Rule}
 use Rattle.table.specs.Plans.{Nonzero, Base, graph, values}
 
 -- ---- which native is kept for a string

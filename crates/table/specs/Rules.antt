@@ -3,7 +3,7 @@ use mathlib.Core.Path.{_≡_}
 use Prim.Native.Nat.{ℕ, _-_, _≤_, _<_}
 use Rattle.native_measurement.specs.Natives.{natives}
 use Rattle.shortest.specs.Graphs.{Has}
-use Rattle.table.specs.Entries.{depth, field, Names, identity, KeptFor, Rotation, leads}
+use Rattle.table.specs.Entries.{depth, Names, identity, KeptFor, Rotation, leads}
 
 -- p is no native string
 abbrev pub NoNative : (ℕ → ℕ) → ℕ → Type 0

@@ -10,7 +10,8 @@ use Rattle.table.specs.Bytes.{entry}
 use Rattle.table.specs.Entries.{value}
 use Rattle.builder.specs.Model.{state}
 use Rattle.builder.specs.States.{twelve}
-use Rattle.builder.proofs.States.{count-room, depth-room, discover-new, discover-old}
+use Rattle.builder.proofs.States.{count-room, depth-room}
+use Rattle.builder.proofs.Model.{discover-new, discover-old}
 use Rattle.builder.proofs.discover.Statement.{statement}
 use Rattle.builder.proofs.discover.Tie as tie
 

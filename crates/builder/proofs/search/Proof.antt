@@ -1,7 +1,6 @@
 -- `builder::search` meets its contract: the packed rotations are those of the natives. Assumes nothing.
 use borrow.Author.Needs.{needs}
 use mathlib.Core.Path.{refl}
-use lib.Dec.{lit<}
 use Rattle.pauli_string.specs.Strings.{qubits}
 use Rattle.natives.specs.Arrays.{at}
 use Rattle.builder.specs.States.{twelve}
@@ -13,7 +12,7 @@ use Rattle.builder.proofs.search.Tie as tie
 pack-requires : tie.Need-pack-requires
 pack-requires c κs =
     let s = c .before .before .before .before .before in
-    (s .pre .0, packed-fresh qubits twelve (at (s .args .strings .now)) (lit< tt))
+    (s .pre .0, packed-fresh qubits twelve (at (s .args .strings .now)))
 
 scan-requires : tie.Need-scan-requires
 scan-requires c κs =

@@ -7,7 +7,7 @@ use Rattle.natives.specs.Arrays.{at}
 use Rattle.natives.proofs.Kept.{keeper-for}
 use Rattle.table.specs.Entries.{value}
 use Rattle.builder.specs.Model.{state, discover}
-use Rattle.builder.proofs.States.{seed-none, seed-some}
+use Rattle.builder.proofs.Model.{seed-none, seed-some}
 use Rattle.builder.proofs.seed.Statement.{statement}
 use Rattle.builder.proofs.seed.Tie as tie
 

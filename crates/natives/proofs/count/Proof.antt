@@ -4,7 +4,7 @@ use mathlib.Core.Path.{_≡_, sym, ap, ap₂, _∙_}
 use Prim.Native.Nat.{ℕ, _+_, _-_, _≤_}
 use native.Mathlib.Omega.{arith}
 use lib.Dec.{eqb}
-use Rattle.measurement.proofs.Matrices.{flag-le}
+use Rattle.bicycle_common.proofs.Letters.{flag-le}
 use Rattle.natives.specs.Arrays.{at}
 use Rattle.natives.specs.Chains.{occurrences}
 use Rattle.natives.proofs.Chains.{occurrences-none, occurrences-more, occurrences-le}

@@ -1,6 +1,6 @@
 -- `natives::word_at` meets its contract: the last of the six bytes is there, so all are; packed they are the word. Assumes nothing.
 use mathlib.Core.Path.{_∙_}
-use Prim.Native.Nat.{ℕ, _+_, _-_, _*_, _<_}
+use Prim.Native.Nat.{ℕ, _+_, _*_, _<_}
 use native.Mathlib.Omega.{arith}
 use Rattle.natives.specs.Arrays.{at}
 use Rattle.measurement.proofs.Strings.{listed-le, packed-listed}
