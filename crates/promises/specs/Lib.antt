@@ -2,3 +2,4 @@
 pub mod Edges
 pub mod Strings
 pub mod Natives
+pub mod Tables

@@ -2,3 +2,4 @@
 pub mod Bytes
 pub mod Entries
 pub mod Rules
+pub mod Plans
