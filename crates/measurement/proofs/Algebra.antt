@@ -10,7 +10,7 @@ use lib.Dec.{eqb}
 use borrow.Author.Tests.{eq-eqb, ne-eqb, eqb-true, eqb-false}
 use Rattle.bicycle_common.specs.Letters.{flag}
 use Rattle.bicycle_common.specs.Ranges.{sum}
-use Rattle.bicycle_common.proofs.Ranges.{sum-same}
+use Rattle.bicycle_common.proofs.Ranges.{sum-same, sum-zero}
 use Rattle.measurement.specs.Matrices.{Matrix, one, mul, pow, Same, Binary}
 use Rattle.measurement.proofs.Matrices.{same-sym, same-trans, mul-same}
 
@@ -38,11 +38,6 @@ unfolding sum
 sum-scaled zero c f = omega arith
 sum-scaled (suc n) c f = rw (sum-scaled n c f, add-mul)
 
-sum-zero : (n : ℕ) → sum n (λ (j : ℕ). 0) ≡ 0
-unfolding sum
-sum-zero zero = refl
-sum-zero (suc n) = omega (arith, sum-zero n)
-
 sum-add : (n : ℕ) (f g : ℕ → ℕ) → sum n (λ (j : ℕ). f j + g j) ≡ sum n f + sum n g
 unfolding sum
 sum-add zero f g = refl
@@ -50,7 +45,7 @@ sum-add (suc n) f g = omega (arith, sum-add n f g)
 
 sum-swap : (n m : ℕ) (f : ℕ → ℕ → ℕ) → sum n (λ (i : ℕ). sum m (λ (j : ℕ). f i j)) ≡ sum m (λ (j : ℕ). sum n (λ (i : ℕ). f i j))
 unfolding sum
-sum-swap zero m f = sym (sum-zero m)
+sum-swap zero m f = sym (sum-zero m (λ (j : ℕ). 0) (λ j h. refl))
 sum-swap (suc n) m f = rw (sum-swap n m f, sum-add m (λ (j : ℕ). sum n (λ (i : ℕ). f i j)) (λ (j : ℕ). f n j))
 
 pub assoc : (s : ℕ) (a b c : Matrix) → Same s (mul s (mul s a b) c) (mul s a (mul s b c))
@@ -69,12 +64,9 @@ unfolding sum
 sum-pick zero i f h l = omega arith
 sum-pick (suc n) i f h l =
     ⊎-elim
-    (λ (e : i ≡ n). rw (e, before n f (λ j hj. h j (omega arith))) (omega arith))
+    (λ (e : i ≡ n). rw (e, sum-zero n f (λ j hj. h j (omega arith))) (omega arith))
     (λ (q : i < n). rw (sum-pick n i f h q, h n (omega arith)) (omega arith))
     (eq-or-lt-of-le (omega arith))
-  where
-    before : (n : ℕ) (f : ℕ → ℕ) → ((j : ℕ) → j < n → f j ≡ 0) → sum n f ≡ 0
-    before n f h = sum-same n f (λ (j : ℕ). 0) h ∙ sum-zero n
 
 flag-same : (i : ℕ) → flag (eqb i i) ≡ 1
 flag-same i = rw (eq-eqb i i refl)

@@ -33,7 +33,7 @@ module _ (q : ℕ) (f : ℕ → ℕ) (small : (n : ℕ) → f n < 4 ^ q) where
   plan-on k x [] w s = let e : k ≡ k + 0 = omega arith in subst (λ (j : ℕ). Plan q f small j x) e w
   plan-on k x (n ∷ ns) w s =
       let v : Plan q f small (k + 1) (leads q f x n) =
-        subst (Plan q f small (k + 1)) (keeper-leads q f x n (s .0 .0)) (step w (keptFor f (f n)) (supported-rotation q f n (s .0 .0) (s .0 .1))) in
+      subst (Plan q f small (k + 1)) (keeper-leads q f x n (s .0 .0)) (step w (keptFor f (f n)) (supported-rotation q f n (s .0 .0) (s .0 .1))) in
       let e : k + 1 + length ns ≡ k + length (n ∷ ns) = omega arith in
       subst (λ (j : ℕ). Plan q f small j (applied q f (leads q f x n) ns)) e (plan-on (k + 1) (leads q f x n) ns v (s .1))
 

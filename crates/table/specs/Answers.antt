@@ -44,17 +44,23 @@ lenOf q t = cond (isTable q t) (NumberIs (entries q t)) (NoNumber TableLength)
 
 -- ---- at string p
 
-abbrev pub readAt : ℕ → List ℕ → ℕ → NumberAnswer → NumberAnswer
-readAt q t p a = cond (isTable q t) (cond (isString q p) a (NoNumber StringRange)) (NoNumber TableLength)
-
 abbrev pub valueAt : ℕ → List ℕ → ℕ → NumberAnswer
-valueAt q t p = readAt q t p (NumberIs (entry t p))
+valueAt q t p = cond (isTable q t) (cond (isString q p) (NumberIs (entry t p)) (NoNumber StringRange)) (NoNumber TableLength)
+
+-- what is answered of a value, where there is no refusal
+abbrev pub ofValue : (ℕ → NumberAnswer) → NumberAnswer → NumberAnswer
+ofValue f (NumberIs v) = f v
+ofValue f (NoNumber r) = NoNumber r
 
 abbrev pub depthAt : ℕ → List ℕ → ℕ → NumberAnswer
-depthAt q t p = readAt q t p (NumberIs (depth (entry t p)))
+depthAt q t p = ofValue (λ (v : ℕ). NumberIs (depth v)) (valueAt q t p)
 
 abbrev pub fieldAt : ℕ → List ℕ → ℕ → NumberAnswer
-fieldAt q t p = readAt q t p (NumberIs (field (entry t p)))
+fieldAt q t p = ofValue (λ (v : ℕ). NumberIs (field v)) (valueAt q t p)
+
+-- value 0 is no value
+abbrev pub costed : ℕ → ℕ → NumberAnswer
+costed p v = cond (eqb v 0) (NoNumber NoEntry) (NumberIs (cost p v))
 
 abbrev pub costAt : ℕ → List ℕ → ℕ → NumberAnswer
-costAt q t p = readAt q t p (cond (eqb (entry t p) 0) (NoNumber NoEntry) (NumberIs (cost p (entry t p))))
+costAt q t p = ofValue (costed p) (valueAt q t p)

@@ -21,7 +21,7 @@ ghost use Rattle.bicycle_common.specs.Letters.{flag};
 ghost use Rattle.bicycle_common.specs.Ranges.{allBelow};
 ghost use Rattle.pauli_string.specs.Strings.{qubits};
 ghost use Rattle.table.specs.Bytes.{tableLength, entry, put, zeros};
-ghost use Rattle.table.specs.Answers.{isEmpty, entries, lenOf, deepest, valueAt, depthAt, fieldAt, costAt};
+ghost use Rattle.table.specs.Answers.{isEmpty, entries, lenOf, deepest, valueAt, depthAt, fieldAt, costed, costAt};
 
 // The bytes of a table: four for each of the 4^12 strings
 pub const TABLE_LENGTH: usize = 67108864;
@@ -110,7 +110,7 @@ fn some(v: u32) -> u32
 }
 
 // How many values are not 0.
-pub fn len_unchecked(table: &[u8]) -> u32
+fn len_unchecked(table: &[u8]) -> u32
     requires { ⌜ length (now table) ≡ tableLength qubits ⌝ }
     ensures { λ r. ⌜ r ≡ entries qubits (now (table .entry)) ⌝ }
 {
@@ -168,44 +168,41 @@ pub fn value(table: &[u8], p: PauliString) -> NumberAnswer
 pub fn depth(table: &[u8], p: PauliString) -> NumberAnswer
     ensures { λ r. ⌜ r ≡ depthAt qubits (now (table .entry)) (p .0) ⌝ }
 {
-    if table.len() != TABLE_LENGTH {
-        return NumberAnswer::Refused(Refusal::TableLength);
+    match value(table, p) {
+        NumberAnswer::Is(v) => NumberAnswer::Is(v / 1024),
+        NumberAnswer::Refused(r) => NumberAnswer::Refused(r),
     }
-    if p.0 >= STRINGS {
-        return NumberAnswer::Refused(Refusal::StringRange);
-    }
-    NumberAnswer::Is(entry_unchecked(table, p.0) / 1024)
 }
 
 // The field at string p: a native's number and 1; 0 where there is no value, 541 at the identity of a built table.
 pub fn field(table: &[u8], p: PauliString) -> NumberAnswer
     ensures { λ r. ⌜ r ≡ fieldAt qubits (now (table .entry)) (p .0) ⌝ }
 {
-    if table.len() != TABLE_LENGTH {
-        return NumberAnswer::Refused(Refusal::TableLength);
+    match value(table, p) {
+        NumberAnswer::Is(v) => NumberAnswer::Is(v % 1024),
+        NumberAnswer::Refused(r) => NumberAnswer::Refused(r),
     }
-    if p.0 >= STRINGS {
-        return NumberAnswer::Refused(Refusal::StringRange);
+}
+
+// What a value costs at string p.
+fn costed(p: u32, v: u32) -> NumberAnswer
+    ensures { λ r. ⌜ r ≡ costed p v ⌝ }
+{
+    if v == 0 {
+        return NumberAnswer::Refused(Refusal::NoEntry);
     }
-    NumberAnswer::Is(entry_unchecked(table, p.0) % 1024)
+    if p == 0 {
+        return NumberAnswer::Is(0);
+    }
+    NumberAnswer::Is(1 + 2 * (v / 1024))
 }
 
 // What the measurement of string p costs, as the original counts: 1, and 2 for each rotation; nothing for the identity.
 pub fn cost(table: &[u8], p: PauliString) -> NumberAnswer
     ensures { λ r. ⌜ r ≡ costAt qubits (now (table .entry)) (p .0) ⌝ }
 {
-    if table.len() != TABLE_LENGTH {
-        return NumberAnswer::Refused(Refusal::TableLength);
+    match value(table, p) {
+        NumberAnswer::Is(v) => costed(p.0, v),
+        NumberAnswer::Refused(r) => NumberAnswer::Refused(r),
     }
-    if p.0 >= STRINGS {
-        return NumberAnswer::Refused(Refusal::StringRange);
-    }
-    let v = entry_unchecked(table, p.0);
-    if v == 0 {
-        return NumberAnswer::Refused(Refusal::NoEntry);
-    }
-    if p.0 == 0 {
-        return NumberAnswer::Is(0);
-    }
-    NumberAnswer::Is(1 + 2 * (v / 1024))
 }
