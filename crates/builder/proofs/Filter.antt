@@ -19,7 +19,7 @@ use Rattle.table.specs.Bytes.{entry}
 use Rattle.table.specs.Entries.{depth}
 use Rattle.builder.specs.Model.{State, attempt, expand}
 use Rattle.builder.specs.States.{Fits, Good, Moving}
-use Rattle.builder.specs.Packed.{packedTried, Rotations, Packed}
+use Rattle.builder.specs.Packed.{packedTried, Rotations, Packed, Scratch}
 use Rattle.builder.specs.Filter.{buckets, bucket, Covers, Rises, Marked, Filled}
 use Rattle.builder.proofs.Model.{expand-turn, expand-idle}
 use Rattle.builder.proofs.States.{tried-keeps, tried-idle, tried-asks, moving-asks, rotate-beside, listed-moving, count-below}
@@ -120,19 +120,16 @@ turn-good q F rs ns m p d s r t =
 pub record Scanned (q : ℕ) (rs ns : List ℕ) (m : ℕ) (s₀ : State) (xs gs filter : List ℕ) (s : State) (i since : ℕ) : Type 0 where
   pub place : i ≤ 4 ^ q
   pub since-low : since ≤ 65536
-  pub long-x : length xs ≡ natives
-  pub long-g : length gs ≡ natives
+  pub scratch : Scratch xs gs
   pub covers : Covers q rs m filter (s .table)
   pub good : Good q s
   pub same : (f : ℕ → ℕ) → Packed q f rs ns m natives → s ≡ inTurn i (expand q f) s₀
 
-pub scan-starts : (q : ℕ) (rs ns : List ℕ) (m : ℕ) (xs gs filter : List ℕ) (s : State) → length xs ≡ natives → length gs ≡ natives
-    → Covers q rs m filter (s .table) → Good q s → Scanned q rs ns m s xs gs filter s 0 0
-scan-starts q rs ns m xs gs filter s lx lg h g = record {
+pub scan-starts : (q : ℕ) (rs ns : List ℕ) (m : ℕ) (xs gs filter : List ℕ) (s : State) → Scratch xs gs → Covers q rs m filter (s .table) → Good q s → Scanned q rs ns m s xs gs filter s 0 0
+scan-starts q rs ns m xs gs filter s x h g = record {
   place = omega arith;
   since-low = omega arith;
-  long-x = lx;
-  long-g = lg;
+  scratch = x;
   covers = h;
   good = g;
   same = λ f z. sym (in-turn-none (expand q f) s);
@@ -141,13 +138,12 @@ scan-starts q rs ns m xs gs filter s lx lg h g = record {
 module _ (q : ℕ) (F : Fits q) (rs ns : List ℕ) (m : ℕ) (s₀ : State) (xs gs filter : List ℕ) (s : State) (i since : ℕ)
     (h : Scanned q rs ns m s₀ xs gs filter s i since) where
   pub scan-next : (xs′ gs′ filter′ : List ℕ) (w : State) (p since′ : ℕ) → Rotations q rs ns m → i < s .count → p ≡ entry (s .queue) i
-      → since′ ≤ 65536 → length xs′ ≡ natives → length gs′ ≡ natives → Covers q rs m filter′ (s .table)
+      → since′ ≤ 65536 → Scratch xs′ gs′ → Covers q rs m filter′ (s .table)
       → w ≡ inTurn m (packedTried q rs ns p (depth (entry (s .table) p) + 1)) s → Scanned q rs ns m s₀ xs′ gs′ filter′ w (i + 1) since′
-  scan-next xs′ gs′ filter′ w p since′ r l zp hs lx lg hc z = record {
+  scan-next xs′ gs′ filter′ w p since′ r l zp hs x hc z = record {
     place = omega (arith, count-below q s (h .good));
     since-low = hs;
-    long-x = lx;
-    long-g = lg;
+    scratch = x;
     covers = covers-turn q rs ns m filter′ p (depth (entry (s .table) p) + 1) s w z hc;
     good =
         subst (Good q) (sym z) (turn-good q F rs ns m p (depth (entry (s .table) p) + 1) s r (listed-moving q s i p (h .good) l zp));

@@ -26,7 +26,7 @@ use Rattle.table.specs.Entries.{value, isRotation, leads}
 use Rattle.table.proofs.Bytes.{getD-zeros, length-zeros}
 use Rattle.builder.specs.Model.{State, discover, attempt}
 use Rattle.builder.specs.States.{Fits}
-use Rattle.builder.specs.Packed.{tried, listedTried, packedTried, Rotations, Packed, Beside, Gathered}
+use Rattle.builder.specs.Packed.{tried, listedTried, packedTried, Rotations, Packed, Scratch, Beside, Gathered}
 use Rattle.builder.proofs.Model.{discover-old, attempt-yes, attempt-no}
 use Rattle.builder.proofs.States.{tried-keeps, rotate-beside}
 
@@ -125,10 +125,9 @@ rotate-moves : (q p r : ℕ) → Strings.blank q r ≡ r → clashes q p r q % 2
 unfolding rotate commute
 rotate-moves q p r b z = ap (conj q p) b ∙ conj-anti q p r (ne-eqb (clashes q p r q % 2) 0 (λ w. omega arith))
 
-pub gathered-none : (q p : ℕ) (rs ns xs gs : List ℕ) → length xs ≡ natives → length gs ≡ natives → Gathered q p rs ns 0 xs gs 0
-gathered-none q p rs ns xs gs lx lg = record {
-  long-x = lx;
-  long-g = lg;
+pub gathered-none : (q p : ℕ) (rs ns xs gs : List ℕ) → Scratch xs gs → Gathered q p rs ns 0 xs gs 0
+gathered-none q p rs ns xs gs w = record {
+  scratch = w;
   front = omega arith;
   beside = λ j l. absurd (omega arith);
   same = λ d s h. in-turn-none (listedTried xs gs d) s ∙ sym (in-turn-none (packedTried q rs ns p d) s);
@@ -140,16 +139,13 @@ module _ (q : ℕ) (F : Fits q) (p : ℕ) (rs ns : List ℕ) (m i : ℕ) (xs gs 
   y = bitXor p (at rs i)
 
   k-below-x : k < length xs
-  k-below-x = omega (arith, g .front, g .long-x, R .few)
+  k-below-x = omega (arith, g .front, g .scratch .long-x, R .few)
 
   k-below-g : k < length gs
-  k-below-g = omega (arith, g .front, g .long-g, R .few)
+  k-below-g = omega (arith, g .front, g .scratch .long-g, R .few)
 
-  long-x : length (set xs k y) ≡ natives
-  long-x = length-set xs k y ∙ g .long-x
-
-  long-g : length (set gs k (at ns i)) ≡ natives
-  long-g = length-set gs k (at ns i) ∙ g .long-g
+  stored : Scratch (set xs k y) (set gs k (at ns i))
+  stored = record { long-x = length-set xs k y ∙ g .scratch .long-x; long-g = length-set gs k (at ns i) ∙ g .scratch .long-g }
 
   -- what lies below k is as it was
   front-same : (d : ℕ) (s : State) → Has (entry (s .table)) p
@@ -168,8 +164,7 @@ module _ (q : ℕ) (F : Fits q) (p : ℕ) (rs ns : List ℕ) (m i : ℕ) (xs gs 
 
   gather-stays : clashes q p (at rs i) q % 2 ≡ 0 → Gathered q p rs ns (i + 1) (set xs k y) (set gs k (at ns i)) k
   gather-stays z = record {
-    long-x = long-x;
-    long-g = long-g;
+    scratch = stored;
     front = omega (arith, g .front);
     beside = front-beside;
     same = λ d s h.
@@ -185,8 +180,7 @@ module _ (q : ℕ) (F : Fits q) (p : ℕ) (rs ns : List ℕ) (m i : ℕ) (xs gs 
 
   gather-moves : clashes q p (at rs i) q % 2 ≡ 1 → Gathered q p rs ns (i + 1) (set xs k y) (set gs k (at ns i)) (k + 1)
   gather-moves z = record {
-    long-x = long-x;
-    long-g = long-g;
+    scratch = stored;
     front = omega (arith, g .front);
     beside = λ j lt. elim (ℕ-discrete j k) [ yes w ↦ subst (λ (j : ℕ). Beside q p (at (set xs k y) j) (at (set gs k (at ns i)) j)) (sym w) here | no w ↦ front-beside j (omega arith) ];
     same = λ d s h.

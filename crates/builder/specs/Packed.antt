@@ -40,6 +40,11 @@ pub record Packed (q : ℕ) (f : ℕ → ℕ) (rs ns : List ℕ) (m k : ℕ) : T
   pub front : m ≤ k
   pub same : (p d : ℕ) (s : State) → inTurn m (packedTried q rs ns p d) s ≡ inTurn k (attempt q f p d) s
 
+-- two arrays to work in
+pub record Scratch (xs gs : List ℕ) : Type 0 where
+  pub long-x : length xs ≡ natives
+  pub long-g : length gs ≡ natives
+
 -- x has the pivot letter of p
 pub record Beside (q p x n : ℕ) : Type 0 where
   pub small : x < 4 ^ q
@@ -48,8 +53,7 @@ pub record Beside (q p x n : ℕ) : Type 0 where
 
 -- the first k of xs and gs are what the first i rotations move p to: trying these is trying those
 pub record Gathered (q p : ℕ) (rs ns : List ℕ) (i : ℕ) (xs gs : List ℕ) (k : ℕ) : Type 0 where
-  pub long-x : length xs ≡ natives
-  pub long-g : length gs ≡ natives
+  pub scratch : Scratch xs gs
   pub front : k ≤ i
   pub beside : (j : ℕ) → j < k → Beside q p (at xs j) (at gs j)
   pub same : (d : ℕ) (s : State) → Has (entry (s .table)) p → inTurn k (listedTried xs gs d) s ≡ inTurn i (packedTried q rs ns p d) s

@@ -29,8 +29,8 @@ ghost use Rattle.builder.specs.Model;
 ghost use Rattle.builder.specs.Model.{state, blank, seeded, expand, built};
 ghost use Rattle.builder.specs.Answers;
 ghost use Rattle.builder.specs.Answers.{outcome, done};
-ghost use Rattle.builder.specs.States.{Good, Asks, Moving};
-ghost use Rattle.builder.specs.Packed.{listedTried, packedTried, Rotations, Packed, Gathered};
+ghost use Rattle.builder.specs.States.{Held, Good, Asks, Moving};
+ghost use Rattle.builder.specs.Packed.{listedTried, packedTried, Rotations, Packed, Scratch, Gathered};
 ghost use Rattle.builder.specs.Filter.{buckets, Covers, Rises, Marked};
 
 // What was built: the number of entries, identity included, and the greatest depth.
@@ -65,7 +65,7 @@ fn discover(table: &mut [u8], queue: &mut [u8], count: u32, x: u32, depth: u32, 
 
 // Native n as a source, unless its string is the identity.
 fn seed(table: &mut [u8], queue: &mut [u8], strings: &[u32], n: usize, count: u32) -> u32
-    requires { ⌜ (n < natives) × (length (now strings) ≡ natives) × ((i : ℕ) → at (now strings) i < 4 ^ qubits) ⌝ }
+    requires { ⌜ (n < natives) × Held qubits (now strings) ⌝ }
     requires { ⌜ Good qubits (state (now table) (now queue) count) ⌝ }
     ensures { λ r. ⌜ state (now (table .exit)) (now (queue .exit)) r ≡ Model.seed (at (now (strings .entry))) n (state (now (table .entry)) (now (queue .entry)) count) ⌝ }
 {
@@ -79,7 +79,7 @@ fn seed(table: &mut [u8], queue: &mut [u8], strings: &[u32], n: usize, count: u3
 
 // All natives as sources, in native order.
 fn seeds(table: &mut [u8], queue: &mut [u8], strings: &[u32]) -> u32
-    requires { ⌜ (length (now strings) ≡ natives) × ((i : ℕ) → at (now strings) i < 4 ^ qubits) ⌝ }
+    requires { ⌜ Held qubits (now strings) ⌝ }
     requires { ⌜ state (now table) (now queue) 0 ≡ blank qubits ⌝ }
     ensures { λ r. ⌜ state (now (table .exit)) (now (queue .exit)) r ≡ seeded qubits (at (now (strings .entry))) ⌝ }
 {
@@ -107,7 +107,7 @@ fn is_rotation(strings: &[u32], n: usize) -> bool
 
 // Native n, if it is a rotation, behind the m that are in front of rs, blanked, with its number in ns.
 fn pack_one(strings: &[u32], rs: &mut [u32; 540], ns: &mut [u32; 540], n: usize, m: usize) -> usize
-    requires { ⌜ (n < natives) × (length (now strings) ≡ natives) × ((i : ℕ) → at (now strings) i < 4 ^ qubits) ⌝ }
+    requires { ⌜ (n < natives) × Held qubits (now strings) ⌝ }
     requires { ⌜ Packed qubits (at (now strings)) (now rs) (now ns) m n ⌝ }
     ensures { λ r. ⌜ Packed qubits (at (now (strings .entry))) (now (rs .exit)) (now (ns .exit)) r (n + 1) ⌝ }
 {
@@ -123,7 +123,7 @@ fn pack_one(strings: &[u32], rs: &mut [u32; 540], ns: &mut [u32; 540], n: usize,
 
 // All rotations in front of rs, blanked, in ascending number, and their numbers in ns. The answer is their count.
 fn pack(strings: &[u32], rs: &mut [u32; 540], ns: &mut [u32; 540]) -> usize
-    requires { ⌜ (length (now strings) ≡ natives) × ((i : ℕ) → at (now strings) i < 4 ^ qubits) ⌝ }
+    requires { ⌜ Held qubits (now strings) ⌝ }
     requires { ⌜ Packed qubits (at (now strings)) (now rs) (now ns) 0 0 ⌝ }
     ensures { λ r. ⌜ Packed qubits (at (now (strings .entry))) (now (rs .exit)) (now (ns .exit)) r natives ⌝ }
 {
@@ -164,7 +164,7 @@ fn gather(
     xs: &mut [u32; 540],
     gs: &mut [u32; 540],
 ) -> usize
-    requires { ⌜ (p < 4 ^ qubits) × (length (now xs) ≡ natives) × (length (now gs) ≡ natives) × Rotations qubits (now rs) (now ns) m ⌝ }
+    requires { ⌜ (p < 4 ^ qubits) × Scratch (now xs) (now gs) × Rotations qubits (now rs) (now ns) m ⌝ }
     ensures { λ k. ⌜ Gathered qubits p (now (rs .entry)) (now (ns .entry)) m (now (xs .exit)) (now (gs .exit)) k ⌝ }
 {
     let t = transposed(p);
@@ -216,8 +216,8 @@ fn turn(
     depth: u32,
     count: u32,
 ) -> u32
-    requires { ⌜ (length (now xs) ≡ natives) × (length (now gs) ≡ natives) × Rotations qubits (now rs) (now ns) m × Moving qubits p depth (state (now table) (now queue) count) ⌝ }
-    ensures { λ r. ⌜ (length (now (xs .exit)) ≡ natives) × (length (now (gs .exit)) ≡ natives) × (state (now (table .exit)) (now (queue .exit)) r ≡ inTurn m (packedTried qubits (now (rs .entry)) (now (ns .entry)) p depth) (state (now (table .entry)) (now (queue .entry)) count)) ⌝ }
+    requires { ⌜ Scratch (now xs) (now gs) × Rotations qubits (now rs) (now ns) m × Moving qubits p depth (state (now table) (now queue) count) ⌝ }
+    ensures { λ r. ⌜ Scratch (now (xs .exit)) (now (gs .exit)) × (state (now (table .exit)) (now (queue .exit)) r ≡ inTurn m (packedTried qubits (now (rs .entry)) (now (ns .entry)) p depth) (state (now (table .entry)) (now (queue .entry)) count)) ⌝ }
 {
     let k = gather(p, rs, ns, m, xs, gs);
     visits(table, queue, xs, gs, k, depth, count)
@@ -314,8 +314,8 @@ fn visit(
     p: u32,
     count: u32,
 ) -> u32
-    requires { ⌜ (length (now xs) ≡ natives) × (length (now gs) ≡ natives) × Rotations qubits (now rs) (now ns) m × Covers qubits (now rs) m (now filter) (now table) × Moving qubits p (depth (entry (now table) p) + 1) (state (now table) (now queue) count) ⌝ }
-    ensures { λ r. ⌜ (length (now (xs .exit)) ≡ natives) × (length (now (gs .exit)) ≡ natives) × (state (now (table .exit)) (now (queue .exit)) r ≡ inTurn m (packedTried qubits (now (rs .entry)) (now (ns .entry)) p (depth (entry (now (table .entry)) p) + 1)) (state (now (table .entry)) (now (queue .entry)) count)) ⌝ }
+    requires { ⌜ Scratch (now xs) (now gs) × Rotations qubits (now rs) (now ns) m × Covers qubits (now rs) m (now filter) (now table) × Moving qubits p (depth (entry (now table) p) + 1) (state (now table) (now queue) count) ⌝ }
+    ensures { λ r. ⌜ Scratch (now (xs .exit)) (now (gs .exit)) × (state (now (table .exit)) (now (queue .exit)) r ≡ inTurn m (packedTried qubits (now (rs .entry)) (now (ns .entry)) p (depth (entry (now (table .entry)) p) + 1)) (state (now (table .entry)) (now (queue .entry)) count)) ⌝ }
 {
     let h = (p % 262144) as usize;
     if filter[h] == 0 {
@@ -339,7 +339,7 @@ fn scan(
     filter: &mut [u8; 262144],
     count: u32,
 ) -> u32
-    requires { ⌜ (length (now xs) ≡ natives) × (length (now gs) ≡ natives) × Rotations qubits (now rs) (now ns) m × Covers qubits (now rs) m (now filter) (now table) × Good qubits (state (now table) (now queue) count) ⌝ }
+    requires { ⌜ Scratch (now xs) (now gs) × Rotations qubits (now rs) (now ns) m × Covers qubits (now rs) m (now filter) (now table) × Good qubits (state (now table) (now queue) count) ⌝ }
     ensures { λ r. ⌜ ((f : ℕ → ℕ) → Packed qubits f (now (rs .entry)) (now (ns .entry)) m natives → state (now (table .exit)) (now (queue .exit)) r ≡ inTurn (4 ^ qubits) (expand qubits f) (state (now (table .entry)) (now (queue .entry)) count)) ⌝ }
 {
     let mut c = count;
@@ -356,7 +356,7 @@ fn scan(
 
 // All strings in order of discovery.
 fn search(table: &mut [u8], queue: &mut [u8], strings: &[u32], count: u32) -> u32
-    requires { ⌜ (length (now strings) ≡ natives) × ((i : ℕ) → at (now strings) i < 4 ^ qubits) ⌝ }
+    requires { ⌜ Held qubits (now strings) ⌝ }
     requires { ⌜ Good qubits (state (now table) (now queue) count) ⌝ }
     ensures { λ r. ⌜ state (now (table .exit)) (now (queue .exit)) r ≡ inTurn (4 ^ qubits) (expand qubits (at (now (strings .entry)))) (state (now (table .entry)) (now (queue .entry)) count) ⌝ }
 {
@@ -394,7 +394,7 @@ fn begin(table: &mut [u8], queue: &mut [u8])
 // The build from the natives' strings.
 fn build_from(table: &mut [u8], queue: &mut [u8], strings: &[u32]) -> Built
     requires { ⌜ (length (now table) ≡ tableLength qubits) × (length (now queue) ≡ tableLength qubits) ⌝ }
-    requires { ⌜ (length (now strings) ≡ natives) × ((i : ℕ) → at (now strings) i < 4 ^ qubits) ⌝ }
+    requires { ⌜ Held qubits (now strings) ⌝ }
     ensures { λ r. ⌜ outcome (Answers.is r) (now (table .exit)) (now (queue .exit)) ≡ done qubits (built qubits (at (now (strings .entry)))) ⌝ }
 {
     begin(table, queue);

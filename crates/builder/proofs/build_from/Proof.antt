@@ -22,7 +22,7 @@ unfolding built
 searched c = c .search .ensures ∙ ap (inTurn (4 ^ qubits) (expand qubits (at (c .before .before .before .before .before .before .before .before .before .before .before .before .before .before .before .before .before .before .before .before .args .strings .now)))) (c .before .before .before .before .before .before .before .seeds .ensures)
 
 searched-good : (c : tie.After-search) → Good qubits (built qubits (at (c .before .before .before .before .before .before .before .before .before .before .before .before .before .before .before .before .before .before .before .before .args .strings .now)))
-searched-good c = built-good qubits twelve (at (c .before .before .before .before .before .before .before .before .before .before .before .before .before .before .before .before .before .before .before .before .args .strings .now)) (c .before .before .before .before .before .before .before .before .before .before .before .before .before .before .before .before .before .before .before .before .pre .1 .1)
+searched-good c = built-good qubits twelve (at (c .before .before .before .before .before .before .before .before .before .before .before .before .before .before .before .before .before .before .before .before .args .strings .now)) (c .before .before .before .before .before .before .before .before .before .before .before .before .before .before .before .before .before .before .before .before .pre .1 .small)
 
 begin-requires : tie.Need-begin-requires
 begin-requires c κs = search needs
@@ -34,7 +34,7 @@ search-requires : tie.Need-search-requires
 search-requires c κs =
     let d = c .before .before .before .before .before .before in
     let s = d .before .before .before .before .before .before .before .before .before .before .before .before .before in
-    (s .pre .1, subst (Good qubits) (sym (d .seeds .ensures)) (seeded-good qubits twelve (at (s .args .strings .now)) (s .pre .1 .1)))
+    (s .pre .1, subst (Good qubits) (sym (d .seeds .ensures)) (seeded-good qubits twelve (at (s .args .strings .now)) (s .pre .1 .small)))
 
 deepest-unchecked-requires : tie.Need-deepest-unchecked-requires
 deepest-unchecked-requires c κs = search needs

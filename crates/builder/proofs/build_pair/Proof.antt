@@ -35,7 +35,7 @@ build-from-requires c κs =
     let my = ofBytes side (s .args .my .now) in
     let f = nativeString side mx my in
     let e = n .strings-unchecked .ensures in
-    (s .pre .0, (ap (λ (l : List ℕ). length l) e ∙ length-from f 0 natives, listed-small f (4 ^ qubits) (native-lt side (lit< tt) mx my) (n .strings-unchecked .last .1 .1 .0) e))
+    (s .pre .0, record { long = ap (λ (l : List ℕ). length l) e ∙ length-from f 0 natives; small = listed-small f (4 ^ qubits) (native-lt side (lit< tt) mx my) (n .strings-unchecked .last .1 .1 .0) e })
 
 same-length : tie.Need-same-length
 same-length c = search needs

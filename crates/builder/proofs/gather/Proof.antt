@@ -28,7 +28,7 @@ loop-holds : tie.Need-loop-holds Inv-loop μ-loop
 loop-holds c =
     let s = c .before in
     let a = s .args in
-    (omega arith, gathered-none qubits (a .p) (a .rs .now) (a .ns .now) (a .xs .now) (a .gs .now) (s .pre .1) (s .pre .2))
+    (omega arith, gathered-none qubits (a .p) (a .rs .now) (a .ns .now) (a .xs .now) (a .gs .now) (s .pre .1))
 
 mul-r : tie.Need-mul-r Inv-loop μ-loop
 mul-r c = search needs
@@ -73,8 +73,8 @@ loop-again c =
     let a = s .args in
     let r = at (a .rs .now) (l .loop .i) in (
       omega arith,
-      gather-more qubits twelve (a .p) (a .rs .now) (a .ns .now) (a .m) (l .loop .i) (l .loop .xs) (l .loop .gs) (l .loop .k) (s .pre .0) (s .pre .3) (c .before .before .before .loop-test .taken) (l .loop .inv .1) (c .odd .result)
-          (c .odd .ensures .0 ∙ ap (λ (n : ℕ). ones (bitAnd n r) % 2) (l .before .transposed .ensures) ∙ count-law qubits (a .p) r (s .pre .0) (s .pre .3 .small (l .loop .i))),
+      gather-more qubits twelve (a .p) (a .rs .now) (a .ns .now) (a .m) (l .loop .i) (l .loop .xs) (l .loop .gs) (l .loop .k) (s .pre .0) (s .pre .2) (c .before .before .before .loop-test .taken) (l .loop .inv .1) (c .odd .result)
+          (c .odd .ensures .0 ∙ ap (λ (n : ℕ). ones (bitAnd n r) % 2) (l .before .transposed .ensures) ∙ count-law qubits (a .p) r (s .pre .0) (s .pre .2 .small (l .loop .i))),
     )
 
 returns : tie.Need-returns Inv-loop μ-loop

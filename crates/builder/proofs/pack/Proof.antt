@@ -25,7 +25,7 @@ pack-one-requires : tie.Need-pack-one-requires Inv-loop μ-loop
 pack-one-requires c κs =
     let l = c .before .before .before in
     let s = l .before .before in
-    ((omega arith, s .pre .0 .0, s .pre .0 .1), l .loop .inv .1)
+    ((omega arith, s .pre .0), l .loop .inv .1)
 
 sub-left : tie.Need-sub-left Inv-loop μ-loop
 sub-left c = search needs

@@ -57,7 +57,7 @@ returns-2 c =
     let i = c .before .before .before in
     subst (λ (r : ℕ). Packed qubits f (set (a .rs .now) (a .m) r) (set (a .ns .now) (a .m) (a .n)) (a .m + 1) (a .n + 1)) (sym (c .zero-pivot-unchecked .ensures))
     (packed-more qubits twelve f (a .rs .now) (a .ns .now) (a .m) (a .n) (s .pre .0 .0) (s .pre .1)
-    (sym (i .is-rotation .ensures) ∙ not-false (i .is-rotation .result) (c .before .before .if1 .left)) (s .pre .0 .2 (a .n)))
+    (sym (i .is-rotation .ensures) ∙ not-false (i .is-rotation .result) (c .before .before .if1 .left)) (s .pre .0 .1 .small (a .n)))
 
 pub pack-one-spec : {M : Type 1} → statement M
 pack-one-spec =

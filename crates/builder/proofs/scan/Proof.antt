@@ -27,7 +27,7 @@ loop-holds : tie.Need-loop-holds Inv-loop μ-loop
 loop-holds c =
     let s = c .before .before in
     let a = s .args in
-    (refl, refl, scan-starts qubits (a .rs .now) (a .ns .now) (a .m) (a .xs .now) (a .gs .now) (a .filter .now) (state (a .table .now) (a .queue .now) (a .count)) (s .pre .0) (s .pre .1) (s .pre .3) (s .pre .4))
+    (refl, refl, scan-starts qubits (a .rs .now) (a .ns .now) (a .m) (a .xs .now) (a .gs .now) (a .filter .now) (state (a .table .now) (a .queue .now) (a .count)) (s .pre .0) (s .pre .2) (s .pre .3))
 
 entry-unchecked-requires : tie.Need-entry-unchecked-requires Inv-loop μ-loop
 entry-unchecked-requires c κs =
@@ -38,7 +38,7 @@ refresh-requires : tie.Need-refresh-requires Inv-loop μ-loop
 refresh-requires c κs =
     let l = c .before .before .before .before .before in
     let s = l .before .before .before in
-    (l .loop .inv .2 .good .table-long, s .pre .2 .few, s .pre .2 .small, l .loop .inv .2 .since-low, l .loop .inv .2 .covers)
+    (l .loop .inv .2 .good .table-long, s .pre .1 .few, s .pre .1 .small, l .loop .inv .2 .since-low, l .loop .inv .2 .covers)
 
 visit-requires : tie.Need-visit-requires Inv-loop μ-loop
 visit-requires c κs =
@@ -47,9 +47,8 @@ visit-requires c κs =
     let i = e .before .before in
     let l = i .before in
     let s = l .before .before .before in (
-      l .loop .inv .2 .long-x,
-      l .loop .inv .2 .long-g,
-      s .pre .2,
+      l .loop .inv .2 .scratch,
+      s .pre .1,
       r .refresh .ensures .1,
       listed-moving qubits (state (l .loop .table) (l .loop .queue) (l .loop .c)) (l .loop .i) (e .entry-unchecked .result) (l .loop .inv .2 .good) (i .loop-test .taken) (e .entry-unchecked .ensures),
     )
@@ -77,7 +76,7 @@ loop-again c =
       v .visit .kept .1 .0 ∙ l .loop .inv .1,
       scan-next qubits twelve (a .rs .now) (a .ns .now) (a .m) (state (a .table .now) (a .queue .now) (a .count)) (l .loop .xs) (l .loop .gs) (l .loop .filter) (state (l .loop .table) (l .loop .queue) (l .loop .c)) (l .loop .i) (l .loop .since) (l .loop .inv .2)
           (v .visit .last .1 .1 .1 .1 .1 .0) (v .visit .last .1 .1 .1 .1 .1 .1 .0) (r .refresh .last .1 .1 .1 .0) (state (v .visit .last .0) (v .visit .last .1 .0) (v .visit .result)) (e .entry-unchecked .result) (r .refresh .result)
-          (s .pre .2) (i .loop-test .taken) (e .entry-unchecked .ensures) (r .refresh .ensures .0) (v .visit .ensures .0) (v .visit .ensures .1) (r .refresh .ensures .1) (v .visit .ensures .2),
+          (s .pre .1) (i .loop-test .taken) (e .entry-unchecked .ensures) (r .refresh .ensures .0) (v .visit .ensures .0) (r .refresh .ensures .1) (v .visit .ensures .1),
     )
 
 same-length : tie.Need-same-length Inv-loop μ-loop

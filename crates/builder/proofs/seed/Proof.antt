@@ -35,7 +35,7 @@ discover-requires c κs =
     let s = c .before .before .before .before .before .before .before .before in (
       s .pre .1,
       record {
-        small = s .pre .0 .2 (s .args .n);
+        small = s .pre .0 .1 .small (s .args .n);
         native-below = omega (arith, s .pre .0 .0, c .before .before .kept-number-unchecked .ensures, keeper-for (at (s .args .strings .now)) (s .args .n) (s .pre .0 .0) .below);
         low = omega arith;
       },

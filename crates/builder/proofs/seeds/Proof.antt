@@ -31,7 +31,7 @@ seed-requires : tie.Need-seed-requires Inv-loop μ-loop
 seed-requires c κs =
     let l = c .before .before .before in
     let s = l .before .before .before .before in
-    ((c .before .before .loop-test .taken, s .pre .0 .0, s .pre .0 .1), l .loop .inv .3)
+    ((c .before .before .loop-test .taken, s .pre .0), l .loop .inv .3)
 
 add-n : tie.Need-add-n Inv-loop μ-loop
 add-n c = search needs
@@ -49,7 +49,7 @@ loop-again c =
       omega arith,
       d .seed .kept .0 ∙ l .loop .inv .1,
       d .seed .kept .1 .0 ∙ l .loop .inv .2,
-      subst (Good qubits) (sym (d .seed .ensures)) (seed-good qubits twelve f (l .loop .n) w (s .pre .0 .1 (l .loop .n)) (d .before .before .before .loop-test .taken) (l .loop .inv .3)),
+      subst (Good qubits) (sym (d .seed .ensures)) (seed-good qubits twelve f (l .loop .n) w (s .pre .0 .small (l .loop .n)) (d .before .before .before .loop-test .taken) (l .loop .inv .3)),
       d .seed .ensures ∙ ap (seed f (l .loop .n)) (l .loop .inv .4) ∙ sym (in-turn-next (l .loop .n) (seed f) (blank qubits)),
     )
 

@@ -20,8 +20,8 @@ visits-requires c κs =
     let a = s .args in
     let xs = g .gather .last .1 .1 .1 .1 .0 in
     let gs = g .gather .last .1 .1 .1 .1 .1 .0 in (
-      (omega (arith, g .gather .ensures .front, s .pre .2 .few), s .pre .3 .good),
-      λ j h. moving-asks qubits twelve (a .p) (a .depth) (at xs j) (at gs j) (state (a .table .now) (a .queue .now) (a .count)) (g .gather .ensures .beside j h) (s .pre .3),
+      (omega (arith, g .gather .ensures .front, s .pre .1 .few), s .pre .2 .good),
+      λ j h. moving-asks qubits twelve (a .p) (a .depth) (at xs j) (at gs j) (state (a .table .now) (a .queue .now) (a .count)) (g .gather .ensures .beside j h) (s .pre .2),
     )
 
 same-length : tie.Need-same-length
@@ -36,9 +36,8 @@ returns c =
     let g = v .before .before .before .before .before in
     let s = g .before .before .before .before .before in
     let a = s .args in (
-      g .gather .ensures .long-x,
-      g .gather .ensures .long-g,
-      v .visits .ensures ∙ g .gather .ensures .same (a .depth) (state (a .table .now) (a .queue .now) (a .count)) (s .pre .3 .has),
+      g .gather .ensures .scratch,
+      v .visits .ensures ∙ g .gather .ensures .same (a .depth) (state (a .table .now) (a .queue .now) (a .count)) (s .pre .2 .has),
     )
 
 pub turn-spec : {M : Type 1} → statement M

@@ -24,8 +24,7 @@ returns c =
     let s = c .before .before .before .before in
     let a = s .args in (
       s .pre .0,
-      s .pre .1,
-      sym (covers-idle qubits (a .rs .now) (a .ns .now) (a .m) (a .filter .now) (a .p) (depth (entry (a .table .now) (a .p)) + 1) (state (a .table .now) (a .queue .now) (a .count)) (s .pre .3) (s .pre .4 .small) (c .if1 .taken)),
+      sym (covers-idle qubits (a .rs .now) (a .ns .now) (a .m) (a .filter .now) (a .p) (depth (entry (a .table .now) (a .p)) + 1) (state (a .table .now) (a .queue .now) (a .count)) (s .pre .2) (s .pre .3 .small) (c .if1 .taken)),
     )
 
 entry-unchecked-requires : tie.Need-entry-unchecked-requires
@@ -39,7 +38,7 @@ turn-requires c κs =
     let e = c .before .before .before .before in
     let s = e .before .before .before .before .before .before in
     let a = s .args in
-    (s .pre .0, s .pre .1, s .pre .2, subst (λ (v : ℕ). Moving qubits (a .p) (depth v + 1) (state (a .table .now) (a .queue .now) (a .count))) (sym (e .entry-unchecked .ensures)) (s .pre .4))
+    (s .pre .0, s .pre .1, subst (λ (v : ℕ). Moving qubits (a .p) (depth v + 1) (state (a .table .now) (a .queue .now) (a .count))) (sym (e .entry-unchecked .ensures)) (s .pre .3))
 
 same-length : tie.Need-same-length
 same-length c = search needs
@@ -53,8 +52,7 @@ returns-2 c =
     let e = t .before .before .before .before .before in
     let a = e .before .before .before .before .before .before .args in (
       t .turn .ensures .0,
-      t .turn .ensures .1,
-      t .turn .ensures .2 ∙ ap (λ (v : ℕ). inTurn (a .m) (packedTried qubits (a .rs .now) (a .ns .now) (a .p) (depth v + 1)) (state (a .table .now) (a .queue .now) (a .count))) (e .entry-unchecked .ensures),
+      t .turn .ensures .1 ∙ ap (λ (v : ℕ). inTurn (a .m) (packedTried qubits (a .rs .now) (a .ns .now) (a .p) (depth v + 1)) (state (a .table .now) (a .queue .now) (a .count))) (e .entry-unchecked .ensures),
     )
 
 pub visit-spec : {M : Type 1} → statement M
