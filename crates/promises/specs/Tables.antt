@@ -16,11 +16,11 @@ use Rattle.measurement.specs.Measures.{nativeString}
 use Rattle.measurement.proofs.Strings.{native-lt}
 use Rattle.natives.specs.Kept.{keptFor}
 use Rattle.table.specs.Bytes.{entry}
-use Rattle.table.specs.Entries.{depth, identity}
+use Rattle.table.specs.Entries.{depth, valid}
 use Rattle.table.specs.Rules.{Rule}
 use Rattle.table.specs.Plans.{Nonzero, applied, All, Supported, Sequence}
 use Rattle.table.specs.Answers.{isTable, entries, deepest}
-use Rattle.table.proofs.Rules.{rules}
+use Rattle.table.proofs.Rules.{rules, rule-valid}
 use Rattle.table.proofs.Plans.{sequence-plan, plan-sequence}
 use Rattle.builder.specs.Model.{built}
 use Rattle.builder.specs.Answers.{toldBuild, build, done}
@@ -58,6 +58,10 @@ module _ (mx my : Matrix) where
   -- a native's entry is its kept number and 1
   pub native-entry : (n : ℕ) → n < natives → (f n ≡ 0 → ⊥) → value (f n) ≡ keptFor f (f n) + 1
   native-entry = Meets.built-native qubits twelve f small
+
+  -- every entry of a nonzero string is valid
+  pub every-entry-is-valid : (p : ℕ) → p < 4 ^ qubits → (p ≡ 0 → ⊥) → Has value p → valid qubits f (value p) p ≡ true
+  every-entry-is-valid p h some e = rule-valid qubits f value p (every-index-meets-its-rule p h) some e
 
   -- ---- shortest plans
 

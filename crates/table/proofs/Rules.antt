@@ -1,16 +1,20 @@
 -- A table meets the rule at every index exactly when its values, as labels of the graph of strings, meet the local rules of a shortest
 -- labelling and index 0 holds 541. A native string is told from another by the number kept for it. Assumes nothing.
 use mathlib.Core.Path.{_≡_, sym, ap, subst, _∙_}
+use mathlib.Core.Bool.{true, cond, and-eq-true-iff}
 use mathlib.Core.Logic.{_⊎_, inl, inr, ⊎-elim}
-use Prim.Native.Nat.{ℕ, _+_, _^_, _≤_, _<_}
+use Prim.Native.Nat.{ℕ, _+_, _-_, _^_, _≤_, _<_}
 use native.Mathlib.Nat.{le-antisymm}
 use native.Mathlib.Omega.{arith, by-contra}
 use native.Mathlib.Decide.{ℕ-discrete, decLt}
+use lib.Dec.{eqb, ltb}
+use borrow.Author.Tests.{lt-ltb, eq-eqb, ne-eqb}
+use Rattle.pauli_string.specs.Strings.{hasPivot}
 use Rattle.native_measurement.specs.Natives.{natives}
-use Rattle.natives.specs.Kept.{keptFor, Keeper}
+use Rattle.natives.specs.Kept.{kept, keptFor, Keeper}
 use Rattle.natives.proofs.Kept.{keeper-for, kept-for-string, kept-sound}
 use Rattle.shortest.specs.Graphs.{Has, Made, Rules, steps}
-use Rattle.table.specs.Entries.{depth, Names, identity, KeptFor, Rotation, leads}
+use Rattle.table.specs.Entries.{depth, field, Names, identity, KeptFor, Rotation, leads, valid}
 use Rattle.table.specs.Rules.{NoNative, Deep, Without, Rule}
 use Rattle.table.specs.Plans.{Nonzero, Base, graph, values}
 
@@ -130,3 +134,33 @@ module _ (q : ℕ) (f : ℕ → ℕ) (small : (n : ℕ) → f n < 4 ^ q) (e : �
       other = λ s none g. other-deep p (record { below = h; some = s }) none g;
       without = λ s z. without-alone p (record { below = h; some = s }) z;
     }
+
+-- ---- valid entries
+
+-- a value that names a kept native n, whose string is p at depth 0 and has pivot support above it
+valid-named : (q : ℕ) (f : ℕ → ℕ) (v p n : ℕ) → Names v n → n < natives → kept f n ≡ true
+    → cond (eqb (depth v) 0) (eqb (f n) p) (hasPivot q (f n)) ≡ true → valid q f v p ≡ true
+valid-named q f v p n h l k e =
+    let low : ltb 0 (field v) ≡ true = lt-ltb 0 (field v) (omega arith) in
+    let high : ltb (field v) (natives + 1) ≡ true = lt-ltb (field v) (natives + 1) (omega arith) in
+    let z : field v - 1 ≡ n = omega arith in
+    rw (low, high, z, k) e
+
+-- where the rule holds, an entry is valid
+pub rule-valid : (q : ℕ) (f e : ℕ → ℕ) (p : ℕ) → Rule q f e p → (p ≡ 0 → ⊥) → Has e p → valid q f (e p) p ≡ true
+rule-valid q f e p r some h = ⊎-elim (λ (m : (n : ℕ) × KeptFor f p n). base m) (λ (none : NoNative f p). deep (r .other some none h)) (native-or-none f p)
+  where
+    base : (n : ℕ) × KeptFor f p n → valid q f (e p) p ≡ true
+    base m =
+        let w = r .native-string some (m .0) (m .1) in
+        let k = m .1 in
+        valid-named q f (e p) p (m .0) (w .1) (k .below) (k .is-kept) (rw (eq-eqb (depth (e p)) 0 (w .0)) (eq-eqb (f (m .0)) p (k .measures)))
+
+    deep : Deep q f e p → valid q f (e p) p ≡ true
+    deep d =
+        let n = d .down .0 in
+        let w = d .down .1 in
+        let ks = and-eq-true-iff (kept f n) (hasPivot q (f n)) in
+        let positive : depth (e p) ≡ 0 → ⊥ = λ z. omega (arith, d .positive) in
+        valid-named q f (e p) p n (w .named) (w .rotation .below) (ks .0 (w .rotation .is-rotation) .0)
+        (rw (ne-eqb (depth (e p)) 0 positive) (ks .0 (w .rotation .is-rotation) .1))
