@@ -10,6 +10,7 @@
 // (see NOTICE).
 use bicycle_common::Refusal;
 use pauli_string::PauliString;
+use pauli_string::STRINGS;
 use table::TABLE_LENGTH;
 ghost use mathlib.Core.Path.{_≡_};
 ghost use mathlib.Core.Bool.{true};
@@ -32,6 +33,11 @@ ghost use Rattle.builder.specs.Answers.{outcome, done};
 ghost use Rattle.builder.specs.States.{Held, Good, Asks, Moving};
 ghost use Rattle.builder.specs.Packed.{listedTried, packedTried, Rotations, Packed, Scratch, Gathered};
 ghost use Rattle.builder.specs.Filter.{buckets, Covers, Rises, Marked};
+
+// The filter is filled when this many strings are found, and again after this many turns; chosen by measuring
+const FOUND: u32 = 16646144;
+
+const TURNS: u32 = 65536;
 
 // What was built: the number of entries, identity included, and the greatest depth.
 pub struct Built {
@@ -267,7 +273,7 @@ fn fill(table: &[u8], rs: &[u32; 540], m: usize, filter: &mut [u8; 262144])
 {
     wipe(filter);
     let mut z: u32 = 0;
-    while z < 16777216 {
+    while z < STRINGS {
         mark_new(table, z, rs, m, filter);
         z += 1;
     }
@@ -291,10 +297,10 @@ fn refresh(
     if filter[h] == 0 {
         return since;
     }
-    if since < 65536 {
+    if since < TURNS {
         return since + 1;
     }
-    if count < 16646144 {
+    if count < FOUND {
         return since;
     }
     fill(table, rs, m, filter);
