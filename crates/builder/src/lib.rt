@@ -23,7 +23,7 @@ ghost use Rattle.pauli_string.specs.Strings.{qubits};
 ghost use Rattle.native_measurement.specs.Natives.{natives};
 ghost use Rattle.measurement.specs.Matrices.{side, ofBytes, isBytes};
 ghost use Rattle.measurement.specs.Measures.{nativeString};
-ghost use Rattle.natives.specs.Arrays.{at};
+ghost use Rattle.natives.specs.Arrays.{at, flags};
 ghost use Rattle.table.specs.Bytes.{tableLength, entry};
 ghost use Rattle.table.specs.Entries.{depth, value, isRotation};
 ghost use Rattle.builder.specs.Model;
@@ -101,23 +101,30 @@ fn seeds(table: &mut [u8], queue: &mut [u8], strings: &[u32]) -> u32
 // ---- the rotations, packed
 
 // Whether native n is kept and has pivot support.
-fn is_rotation(strings: &[u32], n: usize) -> bool
-    requires { ⌜ (n < natives) × (length (now strings) ≡ natives) ⌝ }
+fn is_rotation(strings: &[u32], kept: &[bool; 540], n: usize) -> bool
+    requires { ⌜ (n < natives) × (length (now strings) ≡ natives) × (now kept ≡ flags (at (now strings))) ⌝ }
     ensures { λ r. ⌜ r ≡ isRotation qubits (at (now (strings .entry))) n ⌝ }
 {
-    if natives::is_kept_unchecked(strings, n) {
+    if kept[n] {
         return PauliString(strings[n]).has_pivot_support_unchecked();
     }
     false
 }
 
 // Native n, if it is a rotation, behind the m that are in front of rs, blanked, with its number in ns.
-fn pack_one(strings: &[u32], rs: &mut [u32; 540], ns: &mut [u32; 540], n: usize, m: usize) -> usize
-    requires { ⌜ (n < natives) × Held qubits (now strings) ⌝ }
+fn pack_one(
+    strings: &[u32],
+    kept: &[bool; 540],
+    rs: &mut [u32; 540],
+    ns: &mut [u32; 540],
+    n: usize,
+    m: usize,
+) -> usize
+    requires { ⌜ (n < natives) × Held qubits (now strings) × (now kept ≡ flags (at (now strings))) ⌝ }
     requires { ⌜ Packed qubits (at (now strings)) (now rs) (now ns) m n ⌝ }
     ensures { λ r. ⌜ Packed qubits (at (now (strings .entry))) (now (rs .exit)) (now (ns .exit)) r (n + 1) ⌝ }
 {
-    if !is_rotation(strings, n) {
+    if !is_rotation(strings, kept, n) {
         return m;
     }
     let string = strings[n];
@@ -128,8 +135,8 @@ fn pack_one(strings: &[u32], rs: &mut [u32; 540], ns: &mut [u32; 540], n: usize,
 }
 
 // All rotations in front of rs, blanked, in ascending number, and their numbers in ns. The answer is their count.
-fn pack(strings: &[u32], rs: &mut [u32; 540], ns: &mut [u32; 540]) -> usize
-    requires { ⌜ Held qubits (now strings) ⌝ }
+fn pack(strings: &[u32], kept: &[bool; 540], rs: &mut [u32; 540], ns: &mut [u32; 540]) -> usize
+    requires { ⌜ Held qubits (now strings) × (now kept ≡ flags (at (now strings))) ⌝ }
     requires { ⌜ Packed qubits (at (now strings)) (now rs) (now ns) 0 0 ⌝ }
     ensures { λ r. ⌜ Packed qubits (at (now (strings .entry))) (now (rs .exit)) (now (ns .exit)) r natives ⌝ }
 {
@@ -137,7 +144,7 @@ fn pack(strings: &[u32], rs: &mut [u32; 540], ns: &mut [u32; 540]) -> usize
     let mut left: usize = 540;
     while 0 < left {
         let n = 540 - left;
-        m = pack_one(strings, rs, ns, n, m);
+        m = pack_one(strings, kept, rs, ns, n, m);
         left -= 1;
     }
     m
@@ -361,8 +368,14 @@ fn scan(
 }
 
 // All strings in order of discovery.
-fn search(table: &mut [u8], queue: &mut [u8], strings: &[u32], count: u32) -> u32
-    requires { ⌜ Held qubits (now strings) ⌝ }
+fn search(
+    table: &mut [u8],
+    queue: &mut [u8],
+    strings: &[u32],
+    kept: &[bool; 540],
+    count: u32,
+) -> u32
+    requires { ⌜ Held qubits (now strings) × (now kept ≡ flags (at (now strings))) ⌝ }
     requires { ⌜ Good qubits (state (now table) (now queue) count) ⌝ }
     ensures { λ r. ⌜ state (now (table .exit)) (now (queue .exit)) r ≡ inTurn (4 ^ qubits) (expand qubits (at (now (strings .entry)))) (state (now (table .entry)) (now (queue .entry)) count) ⌝ }
 {
@@ -371,7 +384,7 @@ fn search(table: &mut [u8], queue: &mut [u8], strings: &[u32], count: u32) -> u3
     let mut xs = [0u32; 540];
     let mut gs = [0u32; 540];
     let mut filter = [1u8; 262144];
-    let m = pack(strings, &mut rs, &mut ns);
+    let m = pack(strings, kept, &mut rs, &mut ns);
     scan(
         table,
         queue,
@@ -397,15 +410,15 @@ fn begin(table: &mut [u8], queue: &mut [u8])
     table::put_unchecked(table, 0, 541);
 }
 
-// The build from the natives' strings.
-fn build_from(table: &mut [u8], queue: &mut [u8], strings: &[u32]) -> Built
+// The build from the natives' strings and kept flags.
+fn build_from(table: &mut [u8], queue: &mut [u8], strings: &[u32], kept: &[bool; 540]) -> Built
     requires { ⌜ (length (now table) ≡ tableLength qubits) × (length (now queue) ≡ tableLength qubits) ⌝ }
-    requires { ⌜ Held qubits (now strings) ⌝ }
+    requires { ⌜ Held qubits (now strings) × (now kept ≡ flags (at (now strings))) ⌝ }
     ensures { λ r. ⌜ outcome (Answers.is r) (now (table .exit)) (now (queue .exit)) ≡ done qubits (built qubits (at (now (strings .entry)))) ⌝ }
 {
     begin(table, queue);
     let n = seeds(table, queue, strings);
-    let c = search(table, queue, strings, n);
+    let c = search(table, queue, strings, kept, n);
     let deepest = table::deepest_unchecked(table);
     Built {
         entries: c + 1,
@@ -418,9 +431,10 @@ fn build_pair(table: &mut [u8], queue: &mut [u8], mx: &[u8], my: &[u8]) -> Built
     requires { ⌜ (isBytes side (now mx) ≡ true) × (isBytes side (now my) ≡ true) ⌝ }
     ensures { λ r. ⌜ outcome (Answers.is r) (now (table .exit)) (now (queue .exit)) ≡ done qubits (built qubits (nativeString side (ofBytes side (now (mx .entry))) (ofBytes side (now (my .entry))))) ⌝ }
 {
-    let mut strings = [0u32; 540];
-    natives::strings_unchecked(mx, my, &mut strings);
-    build_from(table, queue, &strings)
+    let held = natives::natives_unchecked(mx, my);
+    let strings = held.strings;
+    let kept = held.kept;
+    build_from(table, queue, &strings, &kept)
 }
 
 // Builds the table of the pair, with all discovered strings in order in the queue.

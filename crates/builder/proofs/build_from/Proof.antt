@@ -22,7 +22,7 @@ unfolding built
 searched c = c .search .ensures ∙ ap (inTurn (4 ^ qubits) (expand qubits (at (c .before .before .before .before .before .before .before .before .before .before .before .before .before .before .before .before .before .before .before .before .args .strings .now)))) (c .before .before .before .before .before .before .before .seeds .ensures)
 
 searched-good : (c : tie.After-search) → Good qubits (built qubits (at (c .before .before .before .before .before .before .before .before .before .before .before .before .before .before .before .before .before .before .before .before .args .strings .now)))
-searched-good c = built-good qubits twelve (at (c .before .before .before .before .before .before .before .before .before .before .before .before .before .before .before .before .before .before .before .before .args .strings .now)) (c .before .before .before .before .before .before .before .before .before .before .before .before .before .before .before .before .before .before .before .before .pre .1 .small)
+searched-good c = built-good qubits twelve (at (c .before .before .before .before .before .before .before .before .before .before .before .before .before .before .before .before .before .before .before .before .args .strings .now)) (c .before .before .before .before .before .before .before .before .before .before .before .before .before .before .before .before .before .before .before .before .pre .1 .0 .small)
 
 begin-requires : tie.Need-begin-requires
 begin-requires c κs = search needs
@@ -34,13 +34,13 @@ search-requires : tie.Need-search-requires
 search-requires c κs =
     let d = c .before .before .before .before .before .before in
     let s = d .before .before .before .before .before .before .before .before .before .before .before .before .before in
-    (s .pre .1, subst (Good qubits) (sym (d .seeds .ensures)) (seeded-good qubits twelve (at (s .args .strings .now)) (s .pre .1 .small)))
+    (s .pre .1, subst (Good qubits) (sym (d .seeds .ensures)) (seeded-good qubits twelve (at (s .args .strings .now)) (s .pre .1 .0 .small)))
 
 deepest-unchecked-requires : tie.Need-deepest-unchecked-requires
 deepest-unchecked-requires c κs = search needs
 
-add-t22 : tie.Need-add-t22
-add-t22 c =
+add-t23 : tie.Need-add-t23
+add-t23 c =
     let e = c .before .before .before .before .before .before in
     let w = state (e .search .last .0) (e .search .last .1 .0) (e .search .result) in
     omega (arith, count-below qubits w (subst (Good qubits) (sym (searched e)) (searched-good e)))
@@ -64,7 +64,7 @@ build-from-spec =
     seeds-requires
     search-requires
     deepest-unchecked-requires
-    add-t22
+    add-t23
     same-length
     same-length-2
     returns)

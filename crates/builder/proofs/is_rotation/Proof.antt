@@ -1,43 +1,51 @@
--- `builder::is_rotation` meets its contract: both tests, in the definition's order. Assumes nothing.
+-- `builder::is_rotation` meets its contract: both tests, in the definition's order, the first by its flag. Assumes nothing.
+-- the flag of n says whether it is kept
 use borrow.Author.Needs.{needs}
-use mathlib.Core.Path.{sym, ap, _∙_}
-use mathlib.Core.Bool.{Bool, _&&_}
+use mathlib.Core.Path.{_≡_, sym, ap, _∙_}
+use mathlib.Core.Bool.{Bool, false, _&&_}
+use mathlib.Core.List.{List}
+use lib.ListN.{getD}
+use Rattle.bicycle_common.proofs.Ranges.{listed-at}
 use Rattle.pauli_string.specs.Strings.{qubits, hasPivot}
+use Rattle.native_measurement.specs.Natives.{natives}
+use Rattle.natives.specs.Kept.{kept}
 use Rattle.natives.specs.Arrays.{at}
 use Rattle.builder.proofs.is_rotation.Statement.{statement}
 use Rattle.builder.proofs.is_rotation.Tie as tie
 
-is-kept-unchecked-requires : tie.Need-is-kept-unchecked-requires
-is-kept-unchecked-requires c κs = search needs
+flag : (c : tie.Start) → getD (c .args .kept .now) (c .args .n) false ≡ kept (at (c .args .strings .now)) (c .args .n)
+flag c =
+    ap (λ (l : List Bool). getD l (c .args .n) false) (c .pre .2) ∙ listed-at (kept (at (c .args .strings .now))) false natives (c .args .n) (c .pre .0)
 
-mul-t4 : tie.Need-mul-t4
-mul-t4 c = search needs
+element-copy-out-if1 : tie.Need-element-copy-out-if1
+element-copy-out-if1 c = search needs
 
-shared-slice-read-t6 : tie.Need-shared-slice-read-t6
-shared-slice-read-t6 c = search needs
+mul-t8 : tie.Need-mul-t8
+mul-t8 c = search needs
+
+shared-slice-read-t10 : tie.Need-shared-slice-read-t10
+shared-slice-read-t10 c = search needs
 
 has-pivot-support-unchecked-requires : tie.Need-has-pivot-support-unchecked-requires
 has-pivot-support-unchecked-requires c κs = search needs
 
 returns : tie.Need-returns
 returns c =
-    let k = c .before .before .before in
-    let a = k .before .before .args in
-    c .has-pivot-support-unchecked .ensures ∙ ap (λ (b : Bool). b && hasPivot qubits (at (a .strings .now) (a .n))) (sym (c .before .before .if1 .taken) ∙ k .is-kept-unchecked .ensures)
+    let s = c .before .before .before .before .before in
+    c .has-pivot-support-unchecked .ensures ∙ ap (λ (b : Bool). b && hasPivot qubits (at (s .args .strings .now) (s .args .n))) (sym (c .before .before .if1 .taken) ∙ flag s)
 
 returns-2 : tie.Need-returns-2
 returns-2 c =
-    let k = c .before in
-    let a = k .before .before .args in
-    ap (λ (b : Bool). b && hasPivot qubits (at (a .strings .now) (a .n))) (sym (c .if1 .left) ∙ k .is-kept-unchecked .ensures)
+    let s = c .before .before .before in
+    ap (λ (b : Bool). b && hasPivot qubits (at (s .args .strings .now) (s .args .n))) (sym (c .if1 .left) ∙ flag s)
 
 pub is-rotation-spec : {M : Type 1} → statement M
 is-rotation-spec =
     tie.close
     (tie.spec
-    is-kept-unchecked-requires
-    mul-t4
-    shared-slice-read-t6
+    element-copy-out-if1
+    mul-t8
+    shared-slice-read-t10
     has-pivot-support-unchecked-requires
     returns
     returns-2)

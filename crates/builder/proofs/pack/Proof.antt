@@ -10,10 +10,10 @@ use Rattle.builder.proofs.pack.Statement.{statement}
 use Rattle.builder.proofs.pack.Tie as tie
 
 abbrev Inv-loop : tie.InvT-loop
-Inv-loop strings rs₀ ns₀ m₀ left₀ rs ns m left = (left ≤ 540) × Packed qubits (at strings) rs ns m (540 - left)
+Inv-loop strings kept rs₀ ns₀ m₀ left₀ rs ns m left = (left ≤ 540) × Packed qubits (at strings) rs ns m (540 - left)
 
 abbrev μ-loop : tie.MeasureT-loop
-μ-loop strings rs₀ ns₀ m₀ left₀ rs ns m left = left
+μ-loop strings kept rs₀ ns₀ m₀ left₀ rs ns m left = left
 
 loop-holds : tie.Need-loop-holds Inv-loop μ-loop
 loop-holds c = (omega arith, c .before .pre .1)
@@ -25,7 +25,7 @@ pack-one-requires : tie.Need-pack-one-requires Inv-loop μ-loop
 pack-one-requires c κs =
     let l = c .before .before .before in
     let s = l .before .before in
-    ((omega arith, s .pre .0), l .loop .inv .1)
+    ((omega arith, s .pre .0 .0, s .pre .0 .1), l .loop .inv .1)
 
 sub-left : tie.Need-sub-left Inv-loop μ-loop
 sub-left c = search needs
@@ -37,7 +37,7 @@ loop-again : tie.Need-loop-again Inv-loop μ-loop
 loop-again c =
     let l = c .before .before .before .before in
     let z : 540 - l .loop .left + 1 ≡ 540 - (l .loop .left - 1) = omega arith in
-    (omega arith, subst (Packed qubits (at (l .before .before .args .strings .now)) (c .pack-one .last .1 .0) (c .pack-one .last .1 .1 .0) (c .pack-one .result)) z (c .pack-one .ensures))
+    (omega arith, subst (Packed qubits (at (l .before .before .args .strings .now)) (c .pack-one .last .1 .1 .0) (c .pack-one .last .1 .1 .1 .0) (c .pack-one .result)) z (c .pack-one .ensures))
 
 returns : tie.Need-returns Inv-loop μ-loop
 returns c =

@@ -18,7 +18,7 @@ scan-requires : tie.Need-scan-requires
 scan-requires c κs =
     let k = c .before .before .before .before .before .before .before in
     let s = k .before .before .before .before .before .before in
-    let rs = k .pack .last .1 .0 in
+    let rs = k .pack .last .1 .1 .0 in
     (record { long-x = refl; long-g = refl }, k .pack .ensures .rotations, covers-fresh qubits rs (k .pack .result) (s .args .table .now), s .pre .1)
 
 same-length : tie.Need-same-length
