@@ -5,7 +5,7 @@ use Prim.Native.Nat.{ℕ}
 use Rattle.bicycle_common.specs.Refusals.{numberOf}
 use Rattle.builder.specs.declared.BuildAnswer.{BuildAnswer}
 use Rattle.builder.specs.declared.BuildAnswer.the-variants.{Is, Refused}
-use Rattle.builder.specs.Answers.{Outcome, toldBuild}
+use Rattle.builder.specs.Answers.{After, toldBuild}
 use Rattle.bicycle.specs.declared.BuildResult.{BuildResult}
 
 -- the refusal of number n carries zeros
@@ -21,8 +21,8 @@ pub flat-tells : (a : BuildAnswer) → (flat a .number ≡ toldBuild a .number) 
 flat-tells (Is b) = (refl, refl)
 flat-tells (Refused r) = (refl, refl)
 
--- r is the answer of an outcome, and t and u are the buffers that it leaves
-pub record Tells (r : BuildResult) (t u : List ℕ) (o : Outcome) : Type 0 where
+-- r is the answer of an after, and t and u are the buffers that it leaves
+pub record Tells (r : BuildResult) (t u : List ℕ) (o : After) : Type 0 where
   pub answer : r ≡ flat (o .answer)
   pub table : t ≡ o .table
   pub queue : u ≡ o .queue

@@ -17,22 +17,22 @@ use Rattle.natives.specs.Arrays.{at}
 use Rattle.table.specs.Answers.{isTable, entries, deepest}
 use Rattle.builder.specs.declared.BuildAnswer.the-variants.{Refused}
 use Rattle.builder.specs.Model.{State, state, built}
-use Rattle.builder.specs.Answers.{outcome, is, done, build}
+use Rattle.builder.specs.Answers.{after, is, done, build}
 use Rattle.builder.specs.States.{Good}
 use Rattle.builder.proofs.States.{good-counts}
 
 module _ (q s : ℕ) (t u mx my : List ℕ) where
-  pub no-table : isTable q t ≡ false → outcome (Refused TableLength) t u ≡ build q s t u mx my
+  pub no-table : isTable q t ≡ false → after (Refused TableLength) t u ≡ build q s t u mx my
   no-table e = rw e
 
-  pub no-queue : isTable q t ≡ true → isTable q u ≡ false → outcome (Refused QueueLength) t u ≡ build q s t u mx my
+  pub no-queue : isTable q t ≡ true → isTable q u ≡ false → after (Refused QueueLength) t u ≡ build q s t u mx my
   no-queue e d = rw (e, d)
 
-  pub no-first : isTable q t ≡ true → isTable q u ≡ true → isBytes s mx ≡ false → outcome (Refused Matrix) t u ≡ build q s t u mx my
+  pub no-first : isTable q t ≡ true → isTable q u ≡ true → isBytes s mx ≡ false → after (Refused Matrix) t u ≡ build q s t u mx my
   no-first e d x = rw (e, d, x)
 
   pub no-second : isTable q t ≡ true → isTable q u ≡ true → isBytes s mx ≡ true → isBytes s my ≡ false
-      → outcome (Refused Matrix) t u ≡ build q s t u mx my
+      → after (Refused Matrix) t u ≡ build q s t u mx my
   no-second e d x y = rw (e, d, x, y)
 
   pub all-right : isTable q t ≡ true → isTable q u ≡ true → isBytes s mx ≡ true → isBytes s my ≡ true
@@ -41,10 +41,10 @@ module _ (q s : ℕ) (t u mx my : List ℕ) where
 
 -- the entries are the strings in the queue and the identity
 pub built-outcome : (q : ℕ) (t u : List ℕ) (c d : ℕ) (b : State) → state t u c ≡ b → Good q b → d ≡ deepest q t
-    → outcome (is (record { entries = c + 1; depth = d })) t u ≡ done q b
+    → after (is (record { entries = c + 1; depth = d })) t u ≡ done q b
 built-outcome q t u c d b e g z =
     let k : c + 1 ≡ entries q t = good-counts q (state t u c) (subst (Good q) (sym e) g) in
-    ap₂ (λ (m n : ℕ). outcome (is (record { entries = m; depth = n })) t u) k z ∙ ap (done q) e
+    ap₂ (λ (m n : ℕ). after (is (record { entries = m; depth = n })) t u) k z ∙ ap (done q) e
 
 -- a list of strings holds strings, and 0 behind them
 pub listed-small : (f : ℕ → ℕ) (b : ℕ) → ((n : ℕ) → f n < b) → (l : List ℕ) → l ≡ listed f natives → (i : ℕ) → at l i < b

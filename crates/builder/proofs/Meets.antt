@@ -24,10 +24,10 @@ use Rattle.table.specs.Plans.{Nonzero, Base, graph, values, Plan}
 use Rattle.table.proofs.Bytes.{entry-put-same, entry-put-other, entry-zeros, length-zeros}
 use Rattle.table.proofs.Entries.{value-depth, value-names}
 use Rattle.table.proofs.Rules.{kept-for, rule}
-use Rattle.builder.specs.Model.{State, state, discover, blank, seed, attempt, expand, seeded, built}
+use Rattle.builder.specs.Model.{State, state, discover, begun, seed, attempt, expand, seeded, built}
 use Rattle.builder.specs.States.{Fits, Good, Asks, Moving}
 use Rattle.builder.proofs.Model.{added, discover-new, discover-old, discover-keeps, seed-none, seed-some, attempt-yes, attempt-no, expand-turn, expand-idle}
-use Rattle.builder.proofs.States.{discovers, good-discover, seed-asks, moving-asks, rotate-beside, count-below, good-shallow, listed-moving, blank-good}
+use Rattle.builder.proofs.States.{discovers, good-discover, seed-asks, moving-asks, rotate-beside, count-below, good-shallow, listed-moving, begun-good}
 
 -- what the test says of a rotation
 rotation-none : (q : ℕ) (f : ℕ → ℕ) (n : ℕ) → isRotation q f n ≡ false → Rotation q f n → ⊥
@@ -41,16 +41,16 @@ record Tidy (s : State) : Type 0 where
   rest : (i : ℕ) → s .count ≤ i → entry (s .queue) i ≡ 0
   once : (i j : ℕ) → i < j → j < s .count → entry (s .queue) i ≡ entry (s .queue) j → ⊥
 
-blank-tidy-at : (q n : ℕ) → n ≡ tableLength q → Tidy (state (put (zeros n) 0 identity) (zeros n) 0)
-blank-tidy-at q n z = record {
+begun-tidy-at : (q n : ℕ) → n ≡ tableLength q → Tidy (state (put (zeros n) 0 identity) (zeros n) 0)
+begun-tidy-at q n z = record {
   first = entry-put-same (zeros n) 0 identity (omega (arith, length-zeros n, z, four-pos q)) (omega arith);
   rest = λ i h. entry-zeros n i;
   once = λ i j l h e. omega arith;
 }
 
-blank-tidy : (q : ℕ) → Tidy (blank q)
-unfolding blank
-blank-tidy q = blank-tidy-at q (tableLength q) refl
+begun-tidy : (q : ℕ) → Tidy (begun q)
+unfolding begun
+begun-tidy q = begun-tidy-at q (tableLength q) refl
 
 module _ (q : ℕ) (F : Fits q) (s : State) (g : Good q s) (x d n : ℕ) (a : Asks q s x d n) (t : Tidy s) where
   tidy-new : entry (s .table) x ≡ 0 → Tidy (added x (value d n) s)
@@ -111,11 +111,11 @@ record Expanding (q : ℕ) (f : ℕ → ℕ) (small : (n : ℕ) → f n < 4 ^ q)
 module _ (q : ℕ) (F : Fits q) (f : ℕ → ℕ) (small : (n : ℕ) → f n < 4 ^ q) where
   -- ---- sources
 
-  blank-search : (n : ℕ) → At q f small (sources 0) (state (put (zeros n) 0 identity) (zeros n) 0)
-  blank-search n = begins (λ p i. entry-put-other (zeros n) 0 identity p (i .some) ∙ entry-zeros n p)
+  begun-search : (n : ℕ) → At q f small (sources 0) (state (put (zeros n) 0 identity) (zeros n) 0)
+  begun-search n = begins (λ p i. entry-put-other (zeros n) 0 identity p (i .some) ∙ entry-zeros n p)
 
-  blank-seeding : Seeding q f small 0 (blank q)
-  blank-seeding = record { good = blank-good q; tidy = blank-tidy q; search = unfold blank in blank-search (tableLength q) }
+  begun-seeding : Seeding q f small 0 (begun q)
+  begun-seeding = record { good = begun-good q; tidy = begun-tidy q; search = unfold begun in begun-search (tableLength q) }
 
   seed-finds : (n : ℕ) (s : State) → n < natives → Seeding q f small n s → (f n ≡ 0 → ⊥) → entry (s .table) (f n) ≡ 0
       → At q f small (sources (n + 1)) (added (f n) (value 0 (keptFor f (f n))) s)
@@ -151,7 +151,7 @@ module _ (q : ℕ) (F : Fits q) (f : ℕ → ℕ) (small : (n : ℕ) → f n < 4
       ]
 
   seeded-seeding : Seeding q f small natives (seeded q f)
-  seeded-seeding = unfold seeded in in-turn-all (Seeding q f small) natives (seed f) (blank q) seed-next blank-seeding
+  seeded-seeding = unfold seeded in in-turn-all (Seeding q f small) natives (seed f) (begun q) seed-next begun-seeding
 
   pub seeded-good : Good q (seeded q f)
   seeded-good = seeded-seeding .good
@@ -170,28 +170,6 @@ module _ (q : ℕ) (F : Fits q) (f : ℕ → ℕ) (small : (n : ℕ) → f n < 4
         has = λ w. t .has (sym z ∙ w);
         next = t .next ∙ ap (λ (v : ℕ). depth v + 1) (sym z);
       }
-
-  moving-attempt : (p d n : ℕ) → n < natives → (s : State) → Moving q p d s → Moving q p d (attempt q f p d n s)
-  moving-attempt p d n l s t = go (isRotation q f n) refl
-    where
-      go : (b : Bool) → isRotation q f n ≡ b → Moving q p d (attempt q f p d n s)
-      go true z = subst (Moving q p d) (sym (attempt-yes q f p d n s z)) (moving-discover p d (leads q f p n) n s (lead-asks p d n s l t) t)
-      go false z = subst (Moving q p d) (sym (attempt-no q f p d n s z)) t
-
-  pub expand-good : (i : ℕ) (s : State) → Good q s → Good q (expand q f i s)
-  expand-good i s g = ⊎-elim
-      (λ l. subst (Good q) (sym (expand-turn q f i s l)) (turned l))
-      (λ l. subst (Good q) (sym (expand-idle q f i s l)) g)
-      (lt-or-ge i (s .count))
-    where
-      p : ℕ
-      p = entry (s .queue) i
-
-      d : ℕ
-      d = depth (entry (s .table) p) + 1
-
-      turned : i < s .count → Good q (inTurn natives (attempt q f p d) s)
-      turned l = in-turn-all (λ (n : ℕ). Moving q p d) natives (attempt q f p d) s (moving-attempt p d) (listed-moving q s i p g l refl) .good
 
   module _ (i p d n : ℕ) (l : n < natives) (s : State) (t : Turning q f small i p d n s) where
     x-is : leads q f (entry (s .queue) i) n ≡ leads q f p n

@@ -13,8 +13,7 @@ use lib.Seq.{getD-set-same, getD-set-other}
 use borrow.Author.Tests.{eq-eqb, ne-eqb}
 use Rattle.bicycle_common.specs.Ranges.{inTurn}
 use Rattle.bicycle_common.proofs.Ranges.{stored-at, in-turn-none, in-turn-next, in-turn-same}
-use Rattle.pauli_string.specs.Strings.{clashes, commute, conj, rotate}
-use Rattle.pauli_string.specs.Strings as Strings
+use Rattle.pauli_string.specs.Strings.{clashes, commute, conj, blank, rotate}
 use Rattle.pauli_string.proofs.Commutation.{conj-commuting, conj-anti}
 use Rattle.pauli_string.proofs.Range.{four-pos}
 use Rattle.pauli_string.proofs.Pivot.{blank-le, blank-blank}
@@ -38,11 +37,11 @@ tried-same x y m n d k s hx hm =
 
 -- ---- packing
 
-rotate-blank : (q p r : ℕ) → 0 < q → rotate q p (Strings.blank q r) ≡ rotate q p r
+rotate-blank : (q p r : ℕ) → 0 < q → rotate q p (blank q r) ≡ rotate q p r
 unfolding rotate
 rotate-blank q p r h = ap (conj q p) (blank-blank q r h)
 
-blank-zero : (q r : ℕ) → r ≡ 0 → Strings.blank q r ≡ r
+blank-zero : (q r : ℕ) → r ≡ 0 → blank q r ≡ r
 blank-zero q r z = omega (arith, blank-le q r)
 
 packed-none : (q : ℕ) (F : Fits q) (f : ℕ → ℕ) (rs ns : List ℕ) → length rs ≡ natives → length ns ≡ natives → ((i : ℕ) → at rs i ≡ 0)
@@ -76,7 +75,7 @@ packed-skip q f rs ns m k e h = record {
 
 module _ (q : ℕ) (F : Fits q) (f : ℕ → ℕ) (rs ns : List ℕ) (m k : ℕ) (l : k < natives) (h : Packed q f rs ns m k) where
   abbrev r : ℕ
-  r = Strings.blank q (f k)
+  r = blank q (f k)
 
   m-below-r : m < length rs
   m-below-r = omega (arith, h .front, h .rotations .long-r)
@@ -100,14 +99,14 @@ module _ (q : ℕ) (F : Fits q) (f : ℕ → ℕ) (rs ns : List ℕ) (m k : ℕ)
       ∙ ap (discover (leads q f p k) (value d k)) c
       ∙ sym (in-turn-next k (attempt q f p d) s ∙ attempt-yes q f p d k (inTurn k (attempt q f p d) s) e)
 
-  pub packed-more : isRotation q f k ≡ true → f k < 4 ^ q → Packed q f (set rs m (Strings.blank q (f k))) (set ns m k) (m + 1) (k + 1)
+  pub packed-more : isRotation q f k ≡ true → f k < 4 ^ q → Packed q f (set rs m (blank q (f k))) (set ns m k) (m + 1) (k + 1)
   packed-more e small = record {
     rotations = record {
       long-r = length-set rs m r ∙ h .rotations .long-r;
       long-n = length-set ns m k ∙ h .rotations .long-n;
       few = omega (arith, h .front);
       small = λ i. stored-at (λ (x : ℕ). x < 4 ^ q) rs 0 i m r m-below-r (λ _. omega (arith, blank-le q (f k))) (λ _. h .rotations .small i);
-      blanked = λ i. stored-at (λ (x : ℕ). Strings.blank q x ≡ x) rs 0 i m r m-below-r (λ _. blank-blank q (f k) (F .some)) (λ _. h .rotations .blanked i);
+      blanked = λ i. stored-at (λ (x : ℕ). blank q x ≡ x) rs 0 i m r m-below-r (λ _. blank-blank q (f k) (F .some)) (λ _. h .rotations .blanked i);
       native-below = λ i. stored-at (λ (x : ℕ). x < natives) ns 0 i m k m-below-n (λ _. l) (λ _. h .rotations .native-below i);
     };
     front = omega (arith, h .front);
@@ -117,11 +116,11 @@ module _ (q : ℕ) (F : Fits q) (f : ℕ → ℕ) (rs ns : List ℕ) (m k : ℕ)
 -- ---- gathering
 
 -- a rotation by a blanked string, decided by the clashes
-rotate-stays : (q p r : ℕ) → Strings.blank q r ≡ r → clashes q p r q % 2 ≡ 0 → rotate q p r ≡ p
+rotate-stays : (q p r : ℕ) → blank q r ≡ r → clashes q p r q % 2 ≡ 0 → rotate q p r ≡ p
 unfolding rotate commute
 rotate-stays q p r b z = ap (conj q p) b ∙ conj-commuting q p r (eq-eqb (clashes q p r q % 2) 0 z)
 
-rotate-moves : (q p r : ℕ) → Strings.blank q r ≡ r → clashes q p r q % 2 ≡ 1 → rotate q p r ≡ bitXor p r
+rotate-moves : (q p r : ℕ) → blank q r ≡ r → clashes q p r q % 2 ≡ 1 → rotate q p r ≡ bitXor p r
 unfolding rotate commute
 rotate-moves q p r b z = ap (conj q p) b ∙ conj-anti q p r (ne-eqb (clashes q p r q % 2) 0 (λ w. omega arith))
 

@@ -12,7 +12,7 @@ use Rattle.natives.specs.Kept.{keptBelow, keptFor}
 use Rattle.natives.proofs.Kept.{kept-same}
 use Rattle.table.specs.Bytes.{entry}
 use Rattle.table.specs.Entries.{depth, value}
-use Rattle.builder.specs.Model.{State, discover, blank, seed, attempt, turn, expand, seeded, built}
+use Rattle.builder.specs.Model.{State, discover, begun, seed, attempt, turn, expand, seeded, built}
 
 module _ (q : ℕ) (f g : ℕ → ℕ) (h : (n : ℕ) → n < natives → f n ≡ g n) where
   kept-below-same : (x k : ℕ) → k ≤ natives → keptBelow f x k ≡ keptBelow g x k
@@ -44,5 +44,5 @@ module _ (q : ℕ) (f g : ℕ → ℕ) (h : (n : ℕ) → n < natives → f n �
   pub built-same : built q f ≡ built q g
   unfolding built seeded
   built-same =
-      in-turn-same (4 ^ q) (expand q f) (expand q g) (inTurn natives (seed f) (blank q)) (λ i l a. expand-same i a)
-      ∙ ap (inTurn (4 ^ q) (expand q g)) (in-turn-same natives (seed f) (seed g) (blank q) (λ n l a. seed-same n l a))
+      in-turn-same (4 ^ q) (expand q f) (expand q g) (inTurn natives (seed f) (begun q)) (λ i l a. expand-same i a)
+      ∙ ap (inTurn (4 ^ q) (expand q g)) (in-turn-same natives (seed f) (seed g) (begun q) (λ n l a. seed-same n l a))

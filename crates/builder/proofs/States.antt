@@ -20,7 +20,7 @@ use Rattle.table.specs.Entries.{depth, value, identity}
 use Rattle.table.specs.Answers.{entries}
 use Rattle.table.proofs.Entries.{value-some, value-depth, value-lt}
 use Rattle.table.proofs.Bytes.{length-put, entry-put-same, entry-put-other, entry-zeros, length-zeros}
-use Rattle.builder.specs.Model.{State, state, discover, blank, seed}
+use Rattle.builder.specs.Model.{State, state, discover, begun, seed}
 use Rattle.builder.proofs.Model.{added, discover-new, discover-old, discover-keeps, seed-none, seed-some}
 use Rattle.builder.specs.States.{classes, Fits, alike, Good, Asks, Moving}
 use Rattle.builder.specs.Packed.{tried, Beside}
@@ -144,9 +144,9 @@ listed-moving q s i p g l z =
     (record { good = g; small = g .counted .listed i l .0; has = g .counted .listed i l .1; next = refl })
 
 -- the start
-blank-at : (q n : ℕ) → n ≡ tableLength q → Good q (state (put (zeros n) 0 identity) (zeros n) 0)
+begun-at : (q n : ℕ) → n ≡ tableLength q → Good q (state (put (zeros n) 0 identity) (zeros n) 0)
 unfolding classes
-blank-at q n z = record {
+begun-at q n z = record {
   table-long = length-put (zeros n) 0 identity ∙ (length-zeros n ∙ z);
   queue-long = length-zeros n ∙ z;
   counted =
@@ -154,9 +154,9 @@ blank-at q n z = record {
       (entry-zeros n) (entry-put-same (zeros n) 0 identity (omega (arith, length-zeros n, z, four-pos q)) (omega arith)) (λ y. omega arith) (omega arith) (λ p h. entry-put-other (zeros n) 0 identity p h) (four-pos q);
 }
 
-pub blank-good : (q : ℕ) → Good q (blank q)
-unfolding blank
-blank-good q = blank-at q (tableLength q) refl
+pub begun-good : (q : ℕ) → Good q (begun q)
+unfolding begun
+begun-good q = begun-at q (tableLength q) refl
 
 -- ---- one source
 

@@ -19,28 +19,28 @@ toldBuild (Is b) = answered (b .entries ∷ b .depth ∷ [])
 toldBuild (Refused r) = refused 2 r
 
 -- the answer, and the bytes of both buffers afterwards
-pub record Outcome : Type 0 where
+pub record After : Type 0 where
   pub answer : BuildAnswer
   pub table : List ℕ
   pub queue : List ℕ
 
-abbrev pub outcome : BuildAnswer → List ℕ → List ℕ → Outcome
-outcome a t q = record { answer = a; table = t; queue = q }
+abbrev pub after : BuildAnswer → List ℕ → List ℕ → After
+after a t q = record { answer = a; table = t; queue = q }
 
 abbrev pub is : Built → BuildAnswer
 is b = Is b
 
 -- a table that was built, over q qubits
-abbrev pub done : ℕ → State → Outcome
-done q s = outcome (Is (record { entries = entries q (s .table); depth = deepest q (s .table) })) (s .table) (s .queue)
+abbrev pub done : ℕ → State → After
+done q s = after (Is (record { entries = entries q (s .table); depth = deepest q (s .table) })) (s .table) (s .queue)
 
 -- of matrices of side s as bytes; t and u are the buffers before
-abbrev pub build : ℕ → ℕ → List ℕ → List ℕ → List ℕ → List ℕ → Outcome
+abbrev pub build : ℕ → ℕ → List ℕ → List ℕ → List ℕ → List ℕ → After
 build q s t u mx my =
     cond (isTable q t)
     (cond (isTable q u)
     (cond (isBytes s mx && isBytes s my)
     (done q (built q (nativeString s (ofBytes s mx) (ofBytes s my))))
-    (outcome (Refused Matrix) t u))
-    (outcome (Refused QueueLength) t u))
-    (outcome (Refused TableLength) t u)
+    (after (Refused Matrix) t u))
+    (after (Refused QueueLength) t u))
+    (after (Refused TableLength) t u)

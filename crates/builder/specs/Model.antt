@@ -23,8 +23,8 @@ unfoldable pub discover : ℕ → ℕ → State → State
 discover x v s = cond (eqb (entry (s .table) x) 0) (state (put (s .table) x v) (put (s .queue) (s .count) x) (s .count + 1)) s
 
 -- index 0 holds 541, and everything else 0
-unfoldable pub blank : ℕ → State
-blank q = state (put (zeros (tableLength q)) 0 identity) (zeros (tableLength q)) 0
+unfoldable pub begun : ℕ → State
+begun q = state (put (zeros (tableLength q)) 0 identity) (zeros (tableLength q)) 0
 
 -- native n as a source: its string, if it is not 0, is discovered at depth 0, with the number kept for it
 unfoldable pub seed : (ℕ → ℕ) → ℕ → State → State
@@ -44,7 +44,7 @@ expand q f i s = cond (ltb i (s .count)) (turn q f (entry (s .queue) i) s) s
 
 -- all sources, in native order
 unfoldable pub seeded : ℕ → (ℕ → ℕ) → State
-seeded q f = inTurn natives (seed f) (blank q)
+seeded q f = inTurn natives (seed f) (begun q)
 
 -- then all strings, in order of discovery
 unfoldable pub built : ℕ → (ℕ → ℕ) → State

@@ -4,8 +4,7 @@ use mathlib.Core.Path.{_≡_}
 use Prim.Native.Nat.{ℕ, _≤_, _<_, _^_}
 use lib.ListN.{length}
 use Rattle.bicycle_common.specs.Ranges.{inTurn}
-use Rattle.pauli_string.specs.Strings.{pivotBits, rotate}
-use Rattle.pauli_string.specs.Strings as Strings
+use Rattle.pauli_string.specs.Strings.{pivotBits, blank, rotate}
 use Rattle.native_measurement.specs.Natives.{natives}
 use Rattle.natives.specs.Arrays.{at}
 use Rattle.shortest.specs.Graphs.{Has}
@@ -31,7 +30,7 @@ pub record Rotations (q : ℕ) (rs ns : List ℕ) (m : ℕ) : Type 0 where
   pub long-n : length ns ≡ natives
   pub few : m ≤ natives
   pub small : (i : ℕ) → at rs i < 4 ^ q
-  pub blanked : (i : ℕ) → Strings.blank q (at rs i) ≡ at rs i
+  pub blanked : (i : ℕ) → blank q (at rs i) ≡ at rs i
   pub native-below : (i : ℕ) → at ns i < natives
 
 -- the first m of rs and ns are the rotations among the first k natives: trying these is trying those

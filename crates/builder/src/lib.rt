@@ -27,9 +27,9 @@ ghost use Rattle.natives.specs.Arrays.{at, flags};
 ghost use Rattle.table.specs.Bytes.{tableLength, entry};
 ghost use Rattle.table.specs.Entries.{depth, value, isRotation};
 ghost use Rattle.builder.specs.Model;
-ghost use Rattle.builder.specs.Model.{state, blank, seeded, expand, built};
+ghost use Rattle.builder.specs.Model.{state, begun, seeded, expand, built};
 ghost use Rattle.builder.specs.Answers;
-ghost use Rattle.builder.specs.Answers.{outcome, done};
+ghost use Rattle.builder.specs.Answers.{after, done};
 ghost use Rattle.builder.specs.States.{Held, Good, Asks, Moving};
 ghost use Rattle.builder.specs.Packed.{listedTried, packedTried, Rotations, Packed, Scratch, Gathered};
 ghost use Rattle.builder.specs.Filter.{buckets, Covers, Rises, Marked};
@@ -86,7 +86,7 @@ fn seed(table: &mut [u8], queue: &mut [u8], strings: &[u32], n: usize, count: u3
 // All natives as sources, in native order.
 fn seeds(table: &mut [u8], queue: &mut [u8], strings: &[u32]) -> u32
     requires { ⌜ Held qubits (now strings) ⌝ }
-    requires { ⌜ state (now table) (now queue) 0 ≡ blank qubits ⌝ }
+    requires { ⌜ state (now table) (now queue) 0 ≡ begun qubits ⌝ }
     ensures { λ r. ⌜ state (now (table .exit)) (now (queue .exit)) r ≡ seeded qubits (at (now (strings .entry))) ⌝ }
 {
     let mut c: u32 = 0;
@@ -403,7 +403,7 @@ fn search(
 // Both buffers cleared, and the identity's value at index 0.
 fn begin(table: &mut [u8], queue: &mut [u8])
     requires { ⌜ (length (now table) ≡ tableLength qubits) × (length (now queue) ≡ tableLength qubits) ⌝ }
-    ensures { λ r. ⌜ state (now (table .exit)) (now (queue .exit)) 0 ≡ blank qubits ⌝ }
+    ensures { λ r. ⌜ state (now (table .exit)) (now (queue .exit)) 0 ≡ begun qubits ⌝ }
 {
     table::clear_unchecked(table);
     table::clear_unchecked(queue);
@@ -414,7 +414,7 @@ fn begin(table: &mut [u8], queue: &mut [u8])
 fn build_from(table: &mut [u8], queue: &mut [u8], strings: &[u32], kept: &[bool; 540]) -> Built
     requires { ⌜ (length (now table) ≡ tableLength qubits) × (length (now queue) ≡ tableLength qubits) ⌝ }
     requires { ⌜ Held qubits (now strings) × (now kept ≡ flags (at (now strings))) ⌝ }
-    ensures { λ r. ⌜ outcome (Answers.is r) (now (table .exit)) (now (queue .exit)) ≡ done qubits (built qubits (at (now (strings .entry)))) ⌝ }
+    ensures { λ r. ⌜ after (Answers.is r) (now (table .exit)) (now (queue .exit)) ≡ done qubits (built qubits (at (now (strings .entry)))) ⌝ }
 {
     begin(table, queue);
     let n = seeds(table, queue, strings);
@@ -429,7 +429,7 @@ fn build_from(table: &mut [u8], queue: &mut [u8], strings: &[u32], kept: &[bool;
 fn build_pair(table: &mut [u8], queue: &mut [u8], mx: &[u8], my: &[u8]) -> Built
     requires { ⌜ (length (now table) ≡ tableLength qubits) × (length (now queue) ≡ tableLength qubits) ⌝ }
     requires { ⌜ (isBytes side (now mx) ≡ true) × (isBytes side (now my) ≡ true) ⌝ }
-    ensures { λ r. ⌜ outcome (Answers.is r) (now (table .exit)) (now (queue .exit)) ≡ done qubits (built qubits (nativeString side (ofBytes side (now (mx .entry))) (ofBytes side (now (my .entry))))) ⌝ }
+    ensures { λ r. ⌜ after (Answers.is r) (now (table .exit)) (now (queue .exit)) ≡ done qubits (built qubits (nativeString side (ofBytes side (now (mx .entry))) (ofBytes side (now (my .entry))))) ⌝ }
 {
     let held = natives::natives_unchecked(mx, my);
     let strings = held.strings;
@@ -439,7 +439,7 @@ fn build_pair(table: &mut [u8], queue: &mut [u8], mx: &[u8], my: &[u8]) -> Built
 
 // Builds the table of the pair, with all discovered strings in order in the queue.
 pub fn build(table: &mut [u8], queue: &mut [u8], mx: &[u8], my: &[u8]) -> BuildAnswer
-    ensures { λ r. ⌜ outcome r (now (table .exit)) (now (queue .exit)) ≡ Answers.build qubits side (now (table .entry)) (now (queue .entry)) (now (mx .entry)) (now (my .entry)) ⌝ }
+    ensures { λ r. ⌜ after r (now (table .exit)) (now (queue .exit)) ≡ Answers.build qubits side (now (table .entry)) (now (queue .entry)) (now (mx .entry)) (now (my .entry)) ⌝ }
 {
     if table.len() != TABLE_LENGTH {
         return BuildAnswer::Refused(Refusal::TableLength);

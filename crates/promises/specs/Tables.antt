@@ -1,12 +1,13 @@
 -- What holds of a built table, of every pair of matrices, at twelve qubits: every index meets its rule, an entry is a shortest plan, and a
 -- string without an entry is reached by no sequence of natives. Each is a case of a law in `shortest`, `table` or `builder`, over any number
 -- of qubits. Assumes nothing.
-use mathlib.Core.Path.{_≡_, refl, sym, _∙_}
+use mathlib.Core.Path.{_≡_, sym}
 use mathlib.Core.Bool.{true, false, _&&_}
 use mathlib.Core.List.{List}
-use Prim.Native.Nat.{ℕ, _+_, _-_, _^_, _≤_, _<_}
+use Prim.Native.Nat.{ℕ, _+_, _^_, _≤_, _<_}
 use lib.Dec.{lit<}
 use lib.ListN.{length}
+use Rattle.bicycle_common.proofs.Ranges.{most-at, most-le}
 use Rattle.shortest.specs.Graphs.{Has}
 use Rattle.shortest.proofs.Shortest.{agree}
 use Rattle.pauli_string.specs.Strings.{qubits}
@@ -18,7 +19,7 @@ use Rattle.natives.specs.Kept.{keptFor}
 use Rattle.table.specs.Bytes.{entry}
 use Rattle.table.specs.Entries.{depth, valid}
 use Rattle.table.specs.Rules.{Rule}
-use Rattle.table.specs.Plans.{Nonzero, applied, All, Supported, Sequence}
+use Rattle.table.specs.Plans.{Nonzero, Gives, Sequence}
 use Rattle.table.specs.Answers.{isTable, entries, deepest}
 use Rattle.table.proofs.Rules.{rules, rule-valid}
 use Rattle.table.proofs.Plans.{sequence-plan, plan-sequence}
@@ -27,7 +28,7 @@ use Rattle.builder.specs.Answers.{toldBuild, build, done}
 use Rattle.builder.specs.States.{twelve}
 use Rattle.builder.proofs.Meets as Meets
 use Rattle.builder.proofs.States.{good-counts}
-use Rattle.builder.proofs.Answers.{no-table, no-queue, no-first, no-second, all-right}
+use Rattle.builder.proofs.Answers.{all-right}
 
 module _ (mx my : Matrix) where
   -- the natives' strings, the built table's values, the strings in the queue and their number
@@ -70,19 +71,24 @@ module _ (mx my : Matrix) where
   entry-has-a-plan p i h = plan-sequence qubits f small (depth (value p)) p (Meets.built-planned qubits twelve f small p i h)
 
   -- and no shorter sequence of natives with pivot support, kept or not, gives it from any native
-  pub no-sequence-is-shorter : (b : ℕ) (ns : List ℕ) (p : ℕ) → b < natives → All (Supported qubits f) ns → applied qubits f (f b) ns ≡ p
-      → (p ≡ 0 → ⊥) → depth (value p) ≤ length ns
-  no-sequence-is-shorter b ns p h s e some =
-      Meets.built-shortest qubits twelve f small p (length ns) (sequence-plan qubits f small b ns p h s e some) .1
+  pub no-sequence-is-shorter : (b : ℕ) (ns : List ℕ) (p : ℕ) → Gives qubits f b ns p → (p ≡ 0 → ⊥) → depth (value p) ≤ length ns
+  no-sequence-is-shorter b ns p g some =
+      Meets.built-shortest qubits twelve f small p (length ns) (sequence-plan qubits f small b ns p g some) .1
 
   -- a string without an entry is reached by no sequence of any length
-  pub no-entry-no-sequence : (b : ℕ) (ns : List ℕ) (p : ℕ) → b < natives → All (Supported qubits f) ns → applied qubits f (f b) ns ≡ p
-      → (p ≡ 0 → ⊥) → value p ≡ 0 → ⊥
-  no-entry-no-sequence b ns p h s e some =
-      Meets.built-shortest qubits twelve f small p (length ns) (sequence-plan qubits f small b ns p h s e some) .0
+  pub no-entry-no-sequence : (b : ℕ) (ns : List ℕ) (p : ℕ) → Gives qubits f b ns p → (p ≡ 0 → ⊥) → value p ≡ 0 → ⊥
+  no-entry-no-sequence b ns p g some =
+      Meets.built-shortest qubits twelve f small p (length ns) (sequence-plan qubits f small b ns p g some) .0
 
   pub depth-never-passes : (p : ℕ) → p < 4 ^ qubits → depth (value p) ≤ 4194303
   depth-never-passes = Meets.built-depth qubits twelve f small
+
+  -- the depth that a build tells is passed by no entry, and keeps that bound too
+  pub no-depth-passes-the-told : (p : ℕ) → p < 4 ^ qubits → depth (value p) ≤ deepest qubits (built qubits f .table)
+  no-depth-passes-the-told = most-at (4 ^ qubits) (λ (p : ℕ). depth (value p))
+
+  pub told-depth-never-passes : deepest qubits (built qubits f .table) ≤ 4194303
+  told-depth-never-passes = most-le (4 ^ qubits) (λ (p : ℕ). depth (value p)) 4194303 depth-never-passes
 
   -- ---- any table that meets the rules
 

@@ -13,7 +13,8 @@ use Rattle.natives.specs.Kept.{keptFor, Keeper}
 use Rattle.natives.proofs.Kept.{keeper-for}
 use Rattle.shortest.specs.Graphs.{start, step}
 use Rattle.table.specs.Entries.{Rotation, leads}
-use Rattle.table.specs.Plans.{Base, Plan, applied, All, Supported, Sequence}
+use Rattle.table.proofs.Rules.{kept-for}
+use Rattle.table.specs.Plans.{Base, Plan, applied, All, Supported, Gives, Sequence}
 
 -- ---- from a sequence to a plan
 
@@ -44,17 +45,17 @@ module _ (q : ℕ) (f : ℕ → ℕ) (small : (n : ℕ) → f n < 4 ^ q) where
       let z : leads q f 0 n ≡ 0 = unfold rotate in conj-zero q (blank q (f n)) in
       ap (λ (x : ℕ). applied q f x ns) z ∙ applied-zero ns
 
-  -- any native, followed by natives with pivot support, is a plan for what they give
-  pub sequence-plan : (b : ℕ) (ns : List ℕ) (p : ℕ) → b < natives → All (Supported q f) ns → applied q f (f b) ns ≡ p → (p ≡ 0 → ⊥)
-      → Plan q f small (length ns) p
-  sequence-plan b ns p h s e some =
-      let nonzero : f b ≡ 0 → ⊥ = λ z. some (sym e ∙ ap (λ (x : ℕ). applied q f x ns) z ∙ applied-zero ns) in
+  -- what a sequence gives has a plan of that length
+  pub sequence-plan : (b : ℕ) (ns : List ℕ) (p : ℕ) → Gives q f b ns p → (p ≡ 0 → ⊥) → Plan q f small (length ns) p
+  sequence-plan b ns p g some =
+      let nonzero : f b ≡ 0 → ⊥ = λ z. some (sym (g .gives) ∙ ap (λ (x : ℕ). applied q f x ns) z ∙ applied-zero ns) in
       let base : Base q f (f b) (keptFor f (f b)) = record {
         string = record { below = small b; some = nonzero };
-        keeps = record { below = keeper-for f b h .below; is-kept = keeper-for f b h .is-kept; measures = keeper-for f b h .same };
+        keeps = kept-for f (f b) b (g .base-below) refl;
       } in
       let z : 0 + length ns ≡ length ns = omega arith in
-      subst (Plan q f small (length ns)) e (subst (λ (k : ℕ). Plan q f small k (applied q f (f b) ns)) z (plan-on 0 (f b) ns (start base) s))
+      subst (Plan q f small (length ns)) (g .gives)
+      (subst (λ (k : ℕ). Plan q f small k (applied q f (f b) ns)) z (plan-on 0 (f b) ns (start base) (g .supported)))
 
   -- ---- and back
 

@@ -58,6 +58,12 @@ All P (n ∷ ns) = P n × All P ns
 abbrev pub Supported : ℕ → (ℕ → ℕ) → ℕ → Type 0
 Supported q f n = (n < natives) × (hasPivot q (f n) ≡ true)
 
+-- native b, followed by the natives of the list, each with pivot support, gives p: their pivots blanked, applied in order to its string
+pub record Gives (q : ℕ) (f : ℕ → ℕ) (b : ℕ) (ns : List ℕ) (p : ℕ) : Type 0 where
+  pub base-below : b < natives
+  pub supported : All (Supported q f) ns
+  pub gives : applied q f (f b) ns ≡ p
+
 -- a kept native, and k rotations which applied in order to its string give p
 pub record Sequence (q : ℕ) (f : ℕ → ℕ) (k p : ℕ) : Type 0 where
   pub base : ℕ

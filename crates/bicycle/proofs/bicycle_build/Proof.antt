@@ -1,7 +1,7 @@
 -- `bicycle::bicycle_build` meets its contract: it is the build, flattened. Assumes nothing.
 use borrow.Author.Needs.{needs}
 use mathlib.Core.Path.{ap, _∙_}
-use Rattle.builder.specs.Answers.{Outcome}
+use Rattle.builder.specs.Answers.{After}
 use Rattle.bicycle.specs.Flat.{flat}
 use Rattle.bicycle.proofs.bicycle_build.Statement.{statement}
 use Rattle.bicycle.proofs.bicycle_build.Tie as tie
@@ -22,9 +22,9 @@ returns : tie.Need-returns
 returns c =
     let b = c .before .before .before .before .before .build .ensures in
     record {
-      answer = c .flat .ensures ∙ ap (λ (o : Outcome). flat (o .answer)) b;
-      table = ap (λ (o : Outcome). o .table) b;
-      queue = ap (λ (o : Outcome). o .queue) b;
+      answer = c .flat .ensures ∙ ap (λ (o : After). flat (o .answer)) b;
+      table = ap (λ (o : After). o .table) b;
+      queue = ap (λ (o : After). o .queue) b;
     }
 
 pub bicycle-build-spec : {M : Type 1} → statement M

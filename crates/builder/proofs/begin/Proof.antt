@@ -4,7 +4,7 @@ use mathlib.Core.Path.{ap, ap₂, _∙_}
 use mathlib.Core.List.{List}
 use Rattle.table.specs.Bytes.{put, zeros}
 use Rattle.table.specs.Entries.{identity}
-use Rattle.builder.specs.Model.{state, blank}
+use Rattle.builder.specs.Model.{state, begun}
 use Rattle.builder.proofs.begin.Statement.{statement}
 use Rattle.builder.proofs.begin.Tie as tie
 
@@ -24,7 +24,7 @@ same-length-2 : tie.Need-same-length-2
 same-length-2 c = search needs
 
 returns : tie.Need-returns
-unfolding blank
+unfolding begun
 returns c =
     let p = c .before .before in
     let u = p .before .before .before .before in

@@ -8,16 +8,16 @@ use Rattle.bicycle_common.specs.Ranges.{inTurn}
 use Rattle.bicycle_common.proofs.Ranges.{in-turn-none, in-turn-next}
 use Rattle.pauli_string.specs.Strings.{qubits}
 use Rattle.natives.specs.Arrays.{at}
-use Rattle.builder.specs.Model.{state, blank, seed, seeded}
+use Rattle.builder.specs.Model.{state, begun, seed, seeded}
 use Rattle.builder.specs.States.{twelve, Good}
-use Rattle.builder.proofs.States.{blank-good, seed-good}
+use Rattle.builder.proofs.States.{begun-good, seed-good}
 use Rattle.builder.proofs.seeds.Statement.{statement}
 use Rattle.builder.proofs.seeds.Tie as tie
 
 abbrev Inv-loop : tie.InvT-loop
 Inv-loop table₀ queue₀ strings c₀ n₀ table queue c n =
     (n ≤ 540) × (length table ≡ length table₀) × (length queue ≡ length queue₀) × Good qubits (state table queue c)
-    × (state table queue c ≡ inTurn n (seed (at strings)) (blank qubits))
+    × (state table queue c ≡ inTurn n (seed (at strings)) (begun qubits))
 
 abbrev μ-loop : tie.MeasureT-loop
 μ-loop table₀ queue₀ strings c₀ n₀ table queue c n = 540 - n
@@ -25,7 +25,7 @@ abbrev μ-loop : tie.MeasureT-loop
 loop-holds : tie.Need-loop-holds Inv-loop μ-loop
 loop-holds c =
     let s = c .before .before .before in
-    (omega arith, refl, refl, subst (Good qubits) (sym (s .pre .1)) (blank-good qubits), s .pre .1 ∙ sym (in-turn-none (seed (at (s .args .strings .now))) (blank qubits)))
+    (omega arith, refl, refl, subst (Good qubits) (sym (s .pre .1)) (begun-good qubits), s .pre .1 ∙ sym (in-turn-none (seed (at (s .args .strings .now))) (begun qubits)))
 
 seed-requires : tie.Need-seed-requires Inv-loop μ-loop
 seed-requires c κs =
@@ -50,7 +50,7 @@ loop-again c =
       d .seed .kept .0 ∙ l .loop .inv .1,
       d .seed .kept .1 .0 ∙ l .loop .inv .2,
       subst (Good qubits) (sym (d .seed .ensures)) (seed-good qubits twelve f (l .loop .n) w (s .pre .0 .small (l .loop .n)) (d .before .before .before .loop-test .taken) (l .loop .inv .3)),
-      d .seed .ensures ∙ ap (seed f (l .loop .n)) (l .loop .inv .4) ∙ sym (in-turn-next (l .loop .n) (seed f) (blank qubits)),
+      d .seed .ensures ∙ ap (seed f (l .loop .n)) (l .loop .inv .4) ∙ sym (in-turn-next (l .loop .n) (seed f) (begun qubits)),
     )
 
 same-length : tie.Need-same-length Inv-loop μ-loop
@@ -64,7 +64,7 @@ unfolding seeded
 returns c =
     let l = c .before in
     let z : l .loop .n ≡ 540 = omega arith in
-    l .loop .inv .4 ∙ ap (λ (n : ℕ). inTurn n (seed (at (l .before .before .before .before .args .strings .now))) (blank qubits)) z
+    l .loop .inv .4 ∙ ap (λ (n : ℕ). inTurn n (seed (at (l .before .before .before .before .args .strings .now))) (begun qubits)) z
 
 pub seeds-spec : {M : Type 1} → statement M
 seeds-spec =
