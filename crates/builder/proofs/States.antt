@@ -22,7 +22,7 @@ use Rattle.table.proofs.Entries.{value-some, value-depth, value-lt}
 use Rattle.table.proofs.Bytes.{length-put, entry-put-same, entry-put-other, entry-zeros, length-zeros}
 use Rattle.builder.specs.Model.{State, state, discover, begun, seed}
 use Rattle.builder.proofs.Model.{added, discover-new, discover-old, discover-keeps, seed-none, seed-some}
-use Rattle.builder.specs.States.{classes, Fits, alike, Good, Asks, Moving}
+use Rattle.builder.specs.States.{classes, Fits, entriesAlike, Good, Asks, Moving}
 use Rattle.builder.specs.Packed.{tried, Beside}
 
 module _ (q : ℕ) (F : Fits q) (s : State) (g : Good q s) (x d n : ℕ) (a : Asks q s x d n) (fresh : entry (s .table) x ≡ 0) where
@@ -60,7 +60,7 @@ module _ (q : ℕ) (F : Fits q) (s : State) (g : Good q s) (x d n : ℕ) (a : As
         discovers (a .small) (omega (arith, value-depth d n (a .native-below), a .low)) (g .counted);
   }
 
-  alike-grows : (y : ℕ) → alike q s y ≤ alike q (added x (value d n) s) y
+  alike-grows : (y : ℕ) → entriesAlike q s y ≤ entriesAlike q (added x (value d n) s) y
   alike-grows y =
       class-grows (classes q) (entry (s .table)) (entry (s .queue)) (s .count) (entry (put (s .table) x (value d n))) (entry (put (s .queue) (s .count) x)) (s .count + 1) x (value d n)
       discovers (pivotBits q y)

@@ -36,8 +36,8 @@ abbrev pub twelve : Fits qubits
 twelve = record { some = lit< tt; values = lit≤ tt; strings = lit≤ tt }
 
 -- how many strings with the pivot letter of x have an entry
-abbrev pub alike : ℕ → State → ℕ → ℕ
-alike q s x = inClass (classes q) (entry (s .table)) (pivotBits q x)
+abbrev pub entriesAlike : ℕ → State → ℕ → ℕ
+entriesAlike q s x = inClass (classes q) (entry (s .table)) (pivotBits q x)
 
 -- a list of the natives' strings, as many as there are natives; behind them a list reads as 0
 pub record Held (q : ℕ) (strings : List ℕ) : Type 0 where
@@ -54,7 +54,7 @@ pub record Good (q : ℕ) (s : State) : Type 0 where
 pub record Asks (q : ℕ) (s : State) (x d n : ℕ) : Type 0 where
   pub small : x < 4 ^ q
   pub native-below : n < natives
-  pub low : d ≤ alike q s x
+  pub low : d ≤ entriesAlike q s x
 
 -- p, which has an entry, is to have its turn at depth d
 pub record Moving (q p d : ℕ) (s : State) : Type 0 where

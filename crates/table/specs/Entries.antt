@@ -55,10 +55,11 @@ leads q f p n = rotate q p (f n)
 
 -- ---- valid entries
 
--- The nonzero value v is a valid entry for the nonzero string p: its field is n + 1 for a kept native n; at depth 0 the native's string is p
--- itself, above it the native has pivot support.
+-- by native n: it is kept; at depth 0 its string is p itself, above it has pivot support
 abbrev pub validBy : ℕ → (ℕ → ℕ) → ℕ → ℕ → ℕ → Bool
 validBy q f v p n = kept f n && cond (eqb (depth v) 0) (eqb (f n) p) (hasPivot q (f n))
 
+-- The nonzero value v is a valid entry for the nonzero string p: its field is n + 1 for a kept native n; at depth 0 that native's string is p
+-- itself; at a depth above 0 it has pivot support.
 abbrev pub valid : ℕ → (ℕ → ℕ) → ℕ → ℕ → Bool
 valid q f v p = cond (ltb 0 (field v) && ltb (field v) (natives + 1)) (validBy q f v p (field v - 1)) false
