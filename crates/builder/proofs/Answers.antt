@@ -3,17 +3,10 @@
 use mathlib.Core.Path.{_≡_, sym, ap, ap₂, subst, _∙_}
 use mathlib.Core.Bool.{true, false}
 use mathlib.Core.List.{List}
-use Prim.Native.Nat.{ℕ, _+_, _≤_, _<_}
-use native.Mathlib.Omega.{arith}
-use native.Mathlib.Decide.{decLt}
-use lib.ListN.{length, List·getD-eq-default}
+use Prim.Native.Nat.{ℕ, _+_}
 use Rattle.bicycle_common.specs.declared.Refusal.the-variants.{TableLength, QueueLength, Matrix}
-use Rattle.bicycle_common.specs.Ranges.{listed}
-use Rattle.bicycle_common.proofs.Ranges.{length-from, listed-at}
-use Rattle.native_measurement.specs.Natives.{natives}
 use Rattle.measurement.specs.Matrices.{ofBytes, isBytes}
 use Rattle.measurement.specs.Measures.{nativeString}
-use Rattle.natives.specs.Arrays.{at}
 use Rattle.table.specs.Answers.{isTable, entries, deepest}
 use Rattle.builder.specs.declared.BuildAnswer.the-variants.{Refused}
 use Rattle.builder.specs.Model.{State, state, built}
@@ -45,13 +38,3 @@ pub built-outcome : (q : ℕ) (t u : List ℕ) (c d : ℕ) (b : State) → state
 built-outcome q t u c d b e g z =
     let k : c + 1 ≡ entries q t = good-counts q (state t u c) (subst (Good q) (sym e) g) in
     ap₂ (λ (m n : ℕ). after (is (record { entries = m; depth = n })) t u) k z ∙ ap (done q) e
-
--- a list of strings holds strings, and 0 behind them
-pub listed-small : (f : ℕ → ℕ) (b : ℕ) → ((n : ℕ) → f n < b) → (l : List ℕ) → l ≡ listed f natives → (i : ℕ) → at l i < b
-listed-small f b h l e i = rw e (elim (decLt i natives) [
-  | yes lt ↦ omega (arith, listed-at f 0 natives i lt, h i)
-  | no g ↦ omega (arith, List·getD-eq-default (listed f natives) 0 (long g), h 0)
-])
-  where
-    long : (i < natives → ⊥) → length (listed f natives) ≤ i
-    long g = omega (arith, length-from f 0 natives)

@@ -17,12 +17,14 @@ use Rattle.natives.specs.Arrays.{at}
 use Rattle.shortest.specs.Graphs.{Has}
 use Rattle.table.specs.Bytes.{entry}
 use Rattle.table.specs.Entries.{depth}
+use Rattle.rotations.specs.Packed.{Rotations, Packed}
 use Rattle.builder.specs.Model.{State, attempt, expand}
 use Rattle.builder.specs.States.{Fits, Good, Moving}
-use Rattle.builder.specs.Packed.{packedTried, Rotations, Packed, Scratch}
+use Rattle.builder.specs.Packed.{packedTried, Scratch}
 use Rattle.builder.specs.Filter.{buckets, bucket, Covers, Rises, Marked, Filled}
 use Rattle.builder.proofs.Model.{expand-turn, expand-idle}
 use Rattle.builder.proofs.States.{tried-keeps, tried-idle, tried-asks, moving-asks, rotate-beside, listed-moving, count-below}
+use Rattle.builder.proofs.Packed.{packed-same}
 
 -- ---- what a filter shows
 
@@ -102,10 +104,10 @@ expand-stalls q f s i (suc k) h =
     ∙ e
 
 -- the turn of a place is that of the packed rotations
-turn-packed : (q : ℕ) (f : ℕ → ℕ) (rs ns : List ℕ) (m i p : ℕ) (s : State) → Packed q f rs ns m natives → i < s .count → p ≡ entry (s .queue) i
+turn-packed : (q : ℕ) (F : Fits q) (f : ℕ → ℕ) (rs ns : List ℕ) (m i p : ℕ) (s : State) → Packed q f rs ns m natives → i < s .count → p ≡ entry (s .queue) i
     → inTurn m (packedTried q rs ns p (depth (entry (s .table) p) + 1)) s ≡ expand q f i s
-turn-packed q f rs ns m i p s h l z =
-    h .same p (depth (entry (s .table) p) + 1) s
+turn-packed q F f rs ns m i p s h l z =
+    packed-same q F f rs ns m natives p (depth (entry (s .table) p) + 1) s h
     ∙ ap (λ (p : ℕ). inTurn natives (attempt q f p (depth (entry (s .table) p) + 1)) s) z
     ∙ sym (expand-turn q f i s l)
 
@@ -148,7 +150,7 @@ module _ (q : ℕ) (F : Fits q) (rs ns : List ℕ) (m : ℕ) (s₀ : State) (xs 
     good =
         subst (Good q) (sym z) (turn-good q F rs ns m p (depth (entry (s .table) p) + 1) s r (listed-moving q s i p (h .good) l zp));
     same = λ f k.
-        z ∙ turn-packed q f rs ns m i p s k l zp ∙ ap (expand q f i) (h .same f k) ∙ sym (in-turn-next i (expand q f) s₀);
+        z ∙ turn-packed q F f rs ns m i p s k l zp ∙ ap (expand q f i) (h .same f k) ∙ sym (in-turn-next i (expand q f) s₀);
   }
 
   pub scan-ends : s .count ≤ i → (f : ℕ → ℕ) → Packed q f rs ns m natives → s ≡ inTurn (4 ^ q) (expand q f) s₀

@@ -2,31 +2,29 @@
 -- rotation does nothing, and a rotation that commutes leads to the string itself, which has an entry. Each store leaves the front alone.
 -- Assumes nothing.
 use mathlib.Core.Path.{_≡_, refl, sym, ap, ap₂, subst, _∙_}
-use mathlib.Core.Bool.{true, false}
 use mathlib.Core.List.{List}
 use Prim.Native.Nat.{ℕ, _+_, _%_, _^_, _<_}
 use native.Mathlib.Omega.{arith}
 use native.Mathlib.Decide.{ℕ-discrete}
 use lib.Bits.{bitXor}
-use lib.ListN.{length, set, replicate, length-set}
+use lib.ListN.{length, set, length-set}
 use lib.Seq.{getD-set-same, getD-set-other}
 use borrow.Author.Tests.{eq-eqb, ne-eqb}
 use Rattle.bicycle_common.specs.Ranges.{inTurn}
-use Rattle.bicycle_common.proofs.Ranges.{stored-at, in-turn-none, in-turn-next, in-turn-same}
+use Rattle.bicycle_common.proofs.Ranges.{in-turn-none, in-turn-next, in-turn-same}
 use Rattle.pauli_string.specs.Strings.{clashes, commute, conj, blank, rotate}
 use Rattle.pauli_string.proofs.Commutation.{conj-commuting, conj-anti}
-use Rattle.pauli_string.proofs.Range.{four-pos}
-use Rattle.pauli_string.proofs.Pivot.{blank-le, blank-blank}
-use Rattle.native_measurement.specs.Natives.{natives}
+use Rattle.pauli_string.proofs.Pivot.{blank-blank}
 use Rattle.natives.specs.Arrays.{at}
 use Rattle.shortest.specs.Graphs.{Has}
-use Rattle.table.specs.Bytes.{entry, zeros}
-use Rattle.table.specs.Entries.{value, isRotation, leads}
-use Rattle.table.proofs.Bytes.{getD-zeros, length-zeros}
+use Rattle.table.specs.Bytes.{entry}
+use Rattle.table.specs.Entries.{value, leads}
+use Rattle.rotations.specs.Packed.{Rotations, Packed}
+use Rattle.rotations.proofs.Packed.{chosen-turns}
 use Rattle.builder.specs.Model.{State, discover, attempt}
 use Rattle.builder.specs.States.{Fits}
-use Rattle.builder.specs.Packed.{tried, listedTried, packedTried, Rotations, Packed, Scratch, Beside, Gathered}
-use Rattle.builder.proofs.Model.{discover-old, attempt-yes, attempt-no}
+use Rattle.builder.specs.Packed.{tried, listedTried, packedTried, Scratch, Beside, Gathered}
+use Rattle.builder.proofs.Model.{discover-old}
 use Rattle.builder.proofs.States.{tried-keeps, rotate-beside}
 
 -- the same strings and numbers, tried in turn
@@ -41,77 +39,14 @@ rotate-blank : (q p r : ℕ) → 0 < q → rotate q p (blank q r) ≡ rotate q p
 unfolding rotate
 rotate-blank q p r h = ap (conj q p) (blank-blank q r h)
 
-blank-zero : (q r : ℕ) → r ≡ 0 → blank q r ≡ r
-blank-zero q r z = omega (arith, blank-le q r)
-
-packed-none : (q : ℕ) (F : Fits q) (f : ℕ → ℕ) (rs ns : List ℕ) → length rs ≡ natives → length ns ≡ natives → ((i : ℕ) → at rs i ≡ 0)
-    → ((i : ℕ) → at ns i ≡ 0) → Packed q f rs ns 0 0
-packed-none q F f rs ns lr ln hr hn = record {
-  rotations = record {
-    long-r = lr;
-    long-n = ln;
-    few = omega arith;
-    small = λ i. omega (arith, hr i, four-pos q);
-    blanked = λ i. blank-zero q (at rs i) (hr i);
-    native-below = λ i. omega (arith, hn i);
-  };
-  front = omega arith;
-  same = λ p d s. in-turn-none (packedTried q rs ns p d) s ∙ sym (in-turn-none (attempt q f p d) s);
-}
-
-packed-zeros : (q : ℕ) (F : Fits q) (f : ℕ → ℕ) (n : ℕ) → n ≡ natives → Packed q f (zeros n) (zeros n) 0 0
-packed-zeros q F f n z = packed-none q F f (zeros n) (zeros n) (length-zeros n ∙ z) (length-zeros n ∙ z) (getD-zeros n) (getD-zeros n)
-
-pub packed-fresh : (q : ℕ) (F : Fits q) (f : ℕ → ℕ) → Packed q f (replicate natives 0) (replicate natives 0) 0 0
-packed-fresh q F f = unfold zeros in packed-zeros q F f natives refl
-
-pub packed-skip : (q : ℕ) (f : ℕ → ℕ) (rs ns : List ℕ) (m k : ℕ) → isRotation q f k ≡ false → Packed q f rs ns m k → Packed q f rs ns m (k + 1)
-packed-skip q f rs ns m k e h = record {
-  rotations = h .rotations;
-  front = omega (arith, h .front);
-  same = λ p d s.
-      h .same p d s ∙ sym (in-turn-next k (attempt q f p d) s ∙ attempt-no q f p d k (inTurn k (attempt q f p d) s) e);
-}
-
-module _ (q : ℕ) (F : Fits q) (f : ℕ → ℕ) (rs ns : List ℕ) (m k : ℕ) (l : k < natives) (h : Packed q f rs ns m k) where
-  abbrev r : ℕ
-  r = blank q (f k)
-
-  m-below-r : m < length rs
-  m-below-r = omega (arith, h .front, h .rotations .long-r)
-
-  m-below-n : m < length ns
-  m-below-n = omega (arith, h .front, h .rotations .long-n)
-
-  -- the front is as it was, and behind it stands native k
-  packed-same : isRotation q f k ≡ true → (p d : ℕ) (s : State)
-      → inTurn (m + 1) (packedTried q (set rs m r) (set ns m k) p d) s ≡ inTurn (k + 1) (attempt q f p d) s
-  packed-same e p d s =
-      let a : rotate q p (at (set rs m r) m) ≡ leads q f p k = ap (rotate q p) (getD-set-same rs m r 0 m-below-r) ∙ rotate-blank q p (f k) (F .some) in
-      let b : at (set ns m k) m ≡ k = getD-set-same ns m k 0 m-below-n in
-      let c : inTurn m (packedTried q (set rs m r) (set ns m k) p d) s ≡ inTurn k (attempt q f p d) s =
-      tried-same (λ (i : ℕ). rotate q p (at (set rs m r) i)) (λ (i : ℕ). rotate q p (at rs i)) (at (set ns m k)) (at ns) d m s
-      (λ j lt. ap (rotate q p) (getD-set-other rs m j r 0 (λ w. omega arith)))
-      (λ j lt. getD-set-other ns m j k 0 (λ w. omega arith))
-      ∙ h .same p d s in
-      in-turn-next m (packedTried q (set rs m r) (set ns m k) p d) s
-      ∙ ap₂ (λ (x n : ℕ). discover x (value d n) (inTurn m (packedTried q (set rs m r) (set ns m k) p d) s)) a b
-      ∙ ap (discover (leads q f p k) (value d k)) c
-      ∙ sym (in-turn-next k (attempt q f p d) s ∙ attempt-yes q f p d k (inTurn k (attempt q f p d) s) e)
-
-  pub packed-more : isRotation q f k ≡ true → f k < 4 ^ q → Packed q f (set rs m (blank q (f k))) (set ns m k) (m + 1) (k + 1)
-  packed-more e small = record {
-    rotations = record {
-      long-r = length-set rs m r ∙ h .rotations .long-r;
-      long-n = length-set ns m k ∙ h .rotations .long-n;
-      few = omega (arith, h .front);
-      small = λ i. stored-at (λ (x : ℕ). x < 4 ^ q) rs 0 i m r m-below-r (λ _. omega (arith, blank-le q (f k))) (λ _. h .rotations .small i);
-      blanked = λ i. stored-at (λ (x : ℕ). blank q x ≡ x) rs 0 i m r m-below-r (λ _. blank-blank q (f k) (F .some)) (λ _. h .rotations .blanked i);
-      native-below = λ i. stored-at (λ (x : ℕ). x < natives) ns 0 i m k m-below-n (λ _. l) (λ _. h .rotations .native-below i);
-    };
-    front = omega (arith, h .front);
-    same = packed-same e;
-  }
+-- trying the packed rotations is trying the natives that they were packed of
+pub packed-same : (q : ℕ) (F : Fits q) (f : ℕ → ℕ) (rs ns : List ℕ) (m k p d : ℕ) (s : State) → Packed q f rs ns m k
+    → inTurn m (packedTried q rs ns p d) s ≡ inTurn k (attempt q f p d) s
+unfolding attempt
+packed-same q F f rs ns m k p d s h =
+    tried-same (λ (i : ℕ). rotate q p (at rs i)) (λ (i : ℕ). leads q f p (at ns i)) (at ns) (at ns) d m s
+    (λ i l. ap (rotate q p) (h .strings i l) ∙ rotate-blank q p (f (at ns i)) (F .some)) (λ i l. refl)
+    ∙ chosen-turns (λ (n : ℕ). discover (leads q f p n) (value d n)) s (h .chosen)
 
 -- ---- gathering
 

@@ -1,16 +1,16 @@
--- The order of work in a turn: rotations are packed once, and only those that move the string are tried. Assumes nothing.
+-- The order of work in a turn: of the packed rotations only those that move the string are tried. Assumes nothing.
 use mathlib.Core.List.{List}
 use mathlib.Core.Path.{_≡_}
 use Prim.Native.Nat.{ℕ, _≤_, _<_, _^_}
 use lib.ListN.{length}
 use Rattle.bicycle_common.specs.Ranges.{inTurn}
-use Rattle.pauli_string.specs.Strings.{pivotBits, blank, rotate}
+use Rattle.pauli_string.specs.Strings.{pivotBits, rotate}
 use Rattle.native_measurement.specs.Natives.{natives}
 use Rattle.natives.specs.Arrays.{at}
 use Rattle.shortest.specs.Graphs.{Has}
 use Rattle.table.specs.Bytes.{entry}
 use Rattle.table.specs.Entries.{value}
-use Rattle.builder.specs.Model.{State, discover, attempt}
+use Rattle.builder.specs.Model.{State, discover}
 
 -- discoveries in turn, all at depth d: string x j by native m j
 abbrev pub tried : (ℕ → ℕ) → (ℕ → ℕ) → ℕ → ℕ → State → State
@@ -23,21 +23,6 @@ listedTried xs ns d j s = tried (at xs) (at ns) d j s
 -- of what p is led to by the strings in rs
 abbrev pub packedTried : ℕ → List ℕ → List ℕ → ℕ → ℕ → ℕ → State → State
 packedTried q rs ns p d i s = tried (λ (k : ℕ). rotate q p (at rs k)) (at ns) d i s
-
--- blanked strings in rs, of which m count, and natives' numbers in ns
-pub record Rotations (q : ℕ) (rs ns : List ℕ) (m : ℕ) : Type 0 where
-  pub long-r : length rs ≡ natives
-  pub long-n : length ns ≡ natives
-  pub few : m ≤ natives
-  pub small : (i : ℕ) → at rs i < 4 ^ q
-  pub blanked : (i : ℕ) → blank q (at rs i) ≡ at rs i
-  pub native-below : (i : ℕ) → at ns i < natives
-
--- the first m of rs and ns are the rotations among the first k natives: trying these is trying those
-pub record Packed (q : ℕ) (f : ℕ → ℕ) (rs ns : List ℕ) (m k : ℕ) : Type 0 where
-  pub rotations : Rotations q rs ns m
-  pub front : m ≤ k
-  pub same : (p d : ℕ) (s : State) → inTurn m (packedTried q rs ns p d) s ≡ inTurn k (attempt q f p d) s
 
 -- two arrays to work in
 pub record Scratch (xs gs : List ℕ) : Type 0 where

@@ -1,5 +1,4 @@
 -- What keeps a build in range: the lengths of the buffers, and the counts of entries, in all and for one pivot letter. Assumes nothing.
-use mathlib.Core.List.{List}
 use mathlib.Core.Path.{_≡_}
 use Prim.Native.Nat.{ℕ, _+_, _-_, _*_, _^_, _≤_, _<_}
 use lib.Dec.{lit<, lit≤}
@@ -7,7 +6,6 @@ use lib.ListN.{length}
 use Rattle.pauli_string.specs.Strings.{qubits, pivotBits, logicalBits, rotationOf}
 use Rattle.pauli_string.proofs.Rotation.{pivot-logical}
 use Rattle.native_measurement.specs.Natives.{natives}
-use Rattle.natives.specs.Arrays.{at}
 use Rattle.shortest.specs.Graphs.{Has}
 use Rattle.shortest.specs.Counts.{Classes, inClass, Counted}
 use Rattle.table.specs.Bytes.{tableLength, entry}
@@ -38,11 +36,6 @@ twelve = record { some = lit< tt; values = lit≤ tt; strings = lit≤ tt }
 -- how many strings with the pivot letter of x have an entry
 abbrev pub entriesAlike : ℕ → State → ℕ → ℕ
 entriesAlike q s x = inClass (classes q) (entry (s .table)) (pivotBits q x)
-
--- a list of the natives' strings, as many as there are natives; behind them a list reads as 0
-pub record Held (q : ℕ) (strings : List ℕ) : Type 0 where
-  pub long : length strings ≡ natives
-  pub small : (i : ℕ) → at strings i < 4 ^ q
 
 -- table and queue have their lengths, and the counts hold
 pub record Good (q : ℕ) (s : State) : Type 0 where

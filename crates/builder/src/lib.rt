@@ -23,15 +23,16 @@ ghost use Rattle.pauli_string.specs.Strings.{qubits};
 ghost use Rattle.native_measurement.specs.Natives.{natives};
 ghost use Rattle.measurement.specs.Matrices.{side, ofBytes, isBytes};
 ghost use Rattle.measurement.specs.Measures.{nativeString};
-ghost use Rattle.natives.specs.Arrays.{at, flags};
+ghost use Rattle.natives.specs.Arrays.{at, Held, flags};
 ghost use Rattle.table.specs.Bytes.{tableLength, entry};
-ghost use Rattle.table.specs.Entries.{depth, value, isRotation};
+ghost use Rattle.table.specs.Entries.{depth, value};
+ghost use Rattle.rotations.specs.Packed.{Rotations, Packed};
 ghost use Rattle.builder.specs.Model;
 ghost use Rattle.builder.specs.Model.{state, begun, seeded, expand, built};
 ghost use Rattle.builder.specs.Answers;
 ghost use Rattle.builder.specs.Answers.{after, done};
-ghost use Rattle.builder.specs.States.{Held, Good, Asks, Moving};
-ghost use Rattle.builder.specs.Packed.{listedTried, packedTried, Rotations, Packed, Scratch, Gathered};
+ghost use Rattle.builder.specs.States.{Good, Asks, Moving};
+ghost use Rattle.builder.specs.Packed.{listedTried, packedTried, Scratch, Gathered};
 ghost use Rattle.builder.specs.Filter.{buckets, Covers, Rises, Marked};
 
 // The filter is filled when this many strings are found, and again after this many turns; chosen by measuring
@@ -96,58 +97,6 @@ fn seeds(table: &mut [u8], queue: &mut [u8], strings: &[u32]) -> u32
         n += 1;
     }
     c
-}
-
-// ---- the rotations, packed
-
-// Whether native n is kept and has pivot support.
-fn is_rotation(strings: &[u32], kept: &[bool; 540], n: usize) -> bool
-    requires { ⌜ (n < natives) × (length (now strings) ≡ natives) × (now kept ≡ flags (at (now strings))) ⌝ }
-    ensures { λ r. ⌜ r ≡ isRotation qubits (at (now (strings .entry))) n ⌝ }
-{
-    if kept[n] {
-        return PauliString(strings[n]).has_pivot_support_unchecked();
-    }
-    false
-}
-
-// Native n, if it is a rotation, behind the m that are in front of rs, blanked, with its number in ns.
-fn pack_one(
-    strings: &[u32],
-    kept: &[bool; 540],
-    rs: &mut [u32; 540],
-    ns: &mut [u32; 540],
-    n: usize,
-    m: usize,
-) -> usize
-    requires { ⌜ (n < natives) × Held qubits (now strings) × (now kept ≡ flags (at (now strings))) ⌝ }
-    requires { ⌜ Packed qubits (at (now strings)) (now rs) (now ns) m n ⌝ }
-    ensures { λ r. ⌜ Packed qubits (at (now (strings .entry))) (now (rs .exit)) (now (ns .exit)) r (n + 1) ⌝ }
-{
-    if !is_rotation(strings, kept, n) {
-        return m;
-    }
-    let string = strings[n];
-    let r = PauliString(string).zero_pivot_unchecked();
-    rs[m] = r.0;
-    ns[m] = n as u32;
-    m + 1
-}
-
-// All rotations in front of rs, blanked, in ascending number, and their numbers in ns. The answer is their count.
-fn pack(strings: &[u32], kept: &[bool; 540], rs: &mut [u32; 540], ns: &mut [u32; 540]) -> usize
-    requires { ⌜ Held qubits (now strings) × (now kept ≡ flags (at (now strings))) ⌝ }
-    requires { ⌜ Packed qubits (at (now strings)) (now rs) (now ns) 0 0 ⌝ }
-    ensures { λ r. ⌜ Packed qubits (at (now (strings .entry))) (now (rs .exit)) (now (ns .exit)) r natives ⌝ }
-{
-    let mut m: usize = 0;
-    let mut left: usize = 540;
-    while 0 < left {
-        let n = 540 - left;
-        m = pack_one(strings, kept, rs, ns, n, m);
-        left -= 1;
-    }
-    m
 }
 
 // ---- one turn
@@ -384,7 +333,7 @@ fn search(
     let mut xs = [0u32; 540];
     let mut gs = [0u32; 540];
     let mut filter = [1u8; 262144];
-    let m = pack(strings, kept, &mut rs, &mut ns);
+    let m = rotations::pack_unchecked(strings, kept, &mut rs, &mut ns);
     scan(
         table,
         queue,

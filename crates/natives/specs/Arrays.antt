@@ -1,8 +1,9 @@
 -- The arrays of a pair's natives. Assumes nothing.
 use mathlib.Core.Bool.{Bool}
 use mathlib.Core.List.{List}
-use Prim.Native.Nat.{ℕ}
-use lib.ListN.{getD}
+use mathlib.Core.Path.{_≡_}
+use Prim.Native.Nat.{ℕ, _^_, _<_}
+use lib.ListN.{getD, length}
 use Rattle.bicycle_common.specs.Ranges.{listed}
 use Rattle.native_measurement.specs.Natives.{natives}
 use Rattle.measurement.specs.Matrices.{side, Matrix, ofBytes}
@@ -17,6 +18,11 @@ at l i = getD l i 0
 -- the string of each native
 abbrev pub strings : Matrix → Matrix → List ℕ
 strings mx my = listed (nativeString side mx my) natives
+
+-- a list of the natives' strings, of q letters, as many as there are natives; behind them a list reads as 0
+pub record Held (q : ℕ) (l : List ℕ) : Type 0 where
+  pub long : length l ≡ natives
+  pub small : (i : ℕ) → at l i < 4 ^ q
 
 -- the kept flag of each native, of which f gives the strings
 abbrev pub flags : (ℕ → ℕ) → List Bool

@@ -3,3 +3,4 @@ pub mod Bytes
 pub mod Entries
 pub mod Rules
 pub mod Plans
+pub mod Answers

@@ -1,17 +1,20 @@
 -- What each public call answers: 1 for bytes that are no table of the strings of q letters, 4 for a number that is no string, 7 where there is
 -- no value. The lowest number that applies is given. Assumes nothing.
-use mathlib.Core.Bool.{Bool, cond}
+use mathlib.Core.Bool.{Bool, cond, _&&_}
 use mathlib.Core.List.{List, [], _∷_}
 use Prim.Native.Nat.{ℕ, _^_}
 use lib.Dec.{eqb}
 use lib.ListN.{length}
-use Rattle.bicycle_common.specs.declared.Refusal.the-variants.{TableLength, StringRange, NoEntry}
+use Rattle.bicycle_common.specs.declared.Refusal.the-variants.{TableLength, Matrix, StringRange, NoEntry}
+use Rattle.bicycle_common.specs.declared.Outcome.{Outcome}
+use Rattle.bicycle_common.specs.declared.Outcome.the-variants.{Done, Refused as NotDone}
 use Rattle.bicycle_common.specs.Refusals.{Told, answered, refused}
 use Rattle.bicycle_common.specs.Ranges.{most, allBelow}
 use Rattle.shortest.specs.Counts.{entriesIn}
 use Rattle.pauli_string.specs.declared.BoolAnswer.{BoolAnswer}
 use Rattle.pauli_string.specs.declared.BoolAnswer.the-variants.{Is as BoolIs, Refused as NoBool}
 use Rattle.pauli_string.specs.Strings.{isString}
+use Rattle.measurement.specs.Matrices.{isBytes}
 use Rattle.table.specs.declared.NumberAnswer.{NumberAnswer}
 use Rattle.table.specs.declared.NumberAnswer.the-variants.{Is as NumberIs, Refused as NoNumber}
 use Rattle.table.specs.Bytes.{tableLength, entry}
@@ -24,6 +27,10 @@ toldNumber (NoNumber r) = refused 1 r
 -- the bytes have the length of a table
 abbrev pub isTable : ℕ → List ℕ → Bool
 isTable q t = eqb (length t) (tableLength q)
+
+-- what a call on the table of a pair of matrices of side s tests first: 1, then 3
+abbrev pub given : ℕ → ℕ → List ℕ → List ℕ → List ℕ → Outcome
+given q s t mx my = cond (isTable q t) (cond (isBytes s mx && isBytes s my) Done (NotDone Matrix)) (NotDone TableLength)
 
 -- ---- of the whole table
 

@@ -8,6 +8,7 @@
 //
 // Copyright contributors to the Bicycle Architecture Compiler project. Licensed under the Apache License, Version 2.0
 // (see NOTICE).
+use bicycle_common::Outcome;
 use bicycle_common::Refusal;
 use pauli_string::BoolAnswer;
 use pauli_string::PauliString;
@@ -20,8 +21,9 @@ ghost use lib.ListN.{length};
 ghost use Rattle.bicycle_common.specs.Letters.{flag};
 ghost use Rattle.bicycle_common.specs.Ranges.{allBelow};
 ghost use Rattle.pauli_string.specs.Strings.{qubits};
+ghost use Rattle.measurement.specs.Matrices.{side};
 ghost use Rattle.table.specs.Bytes.{tableLength, entry, put, zeros};
-ghost use Rattle.table.specs.Answers.{isEmpty, entries, lenOf, deepest, valueAt, depthAt, fieldAt, costed, costAt};
+ghost use Rattle.table.specs.Answers.{given, isEmpty, entries, lenOf, deepest, valueAt, depthAt, fieldAt, costed, costAt};
 
 // The bytes of a table: four for each of the 4^12 strings
 pub const TABLE_LENGTH: usize = 67108864;
@@ -74,6 +76,24 @@ pub fn clear_unchecked(bytes: &mut [u8])
         bytes[i] = 0;
         i += 1;
     }
+}
+
+// ---- what is lent
+
+// Whether the bytes are a table and the matrices of a pair: 1, or 3, where they are not.
+pub fn given(table: &[u8], mx: &[u8], my: &[u8]) -> Outcome
+    ensures { λ r. ⌜ r ≡ given qubits side (now (table .entry)) (now (mx .entry)) (now (my .entry)) ⌝ }
+{
+    if table.len() != TABLE_LENGTH {
+        return Outcome::Refused(Refusal::TableLength);
+    }
+    if !measurement::is_matrix(mx) {
+        return Outcome::Refused(Refusal::Matrix);
+    }
+    if !measurement::is_matrix(my) {
+        return Outcome::Refused(Refusal::Matrix);
+    }
+    Outcome::Done
 }
 
 // ---- the whole table

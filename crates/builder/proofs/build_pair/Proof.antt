@@ -3,10 +3,9 @@
 use borrow.Author.Needs.{needs}
 use mathlib.Core.Path.{_≡_, sym, ap, _∙_}
 use mathlib.Core.List.{List}
-use Prim.Native.Nat.{ℕ, _^_, _<_}
+use Prim.Native.Nat.{ℕ, _<_}
 use lib.Dec.{lit<}
-use lib.ListN.{length}
-use Rattle.bicycle_common.proofs.Ranges.{length-from, listed-at}
+use Rattle.bicycle_common.proofs.Ranges.{listed-at}
 use Rattle.pauli_string.specs.Strings.{qubits}
 use Rattle.native_measurement.specs.Natives.{natives}
 use Rattle.measurement.specs.Matrices.{side, ofBytes}
@@ -14,21 +13,21 @@ use Rattle.measurement.specs.Measures.{nativeString}
 use Rattle.measurement.proofs.Strings.{native-lt}
 use Rattle.natives.specs.declared.Natives.{Natives}
 use Rattle.natives.specs.Arrays.{at, strings}
+use Rattle.natives.proofs.Arrays.{held}
 use Rattle.natives.proofs.Kept.{flags-same}
 use Rattle.builder.specs.Answers.{done}
 use Rattle.builder.proofs.Same.{built-same}
-use Rattle.builder.proofs.Answers.{listed-small}
 use Rattle.builder.proofs.build_pair.Statement.{statement}
 use Rattle.builder.proofs.build_pair.Tie as tie
 
 abbrev named : (c : tie.After-natives-unchecked) → ℕ → ℕ
 named c = nativeString side (ofBytes side (c .before .before .before .before .before .args .mx .now)) (ofBytes side (c .before .before .before .before .before .args .my .now))
 
-held : (c : tie.After-natives-unchecked) → c .natives-unchecked .result .strings ≡ strings (ofBytes side (c .before .before .before .before .before .args .mx .now)) (ofBytes side (c .before .before .before .before .before .args .my .now))
-held c = ap (λ (r : Natives). r .strings) (c .natives-unchecked .ensures)
+listed : (c : tie.After-natives-unchecked) → c .natives-unchecked .result .strings ≡ strings (ofBytes side (c .before .before .before .before .before .args .mx .now)) (ofBytes side (c .before .before .before .before .before .args .my .now))
+listed c = ap (λ (r : Natives). r .strings) (c .natives-unchecked .ensures)
 
 held-at : (c : tie.After-natives-unchecked) (i : ℕ) → i < natives → at (c .natives-unchecked .result .strings) i ≡ named c i
-held-at c i h = ap (λ (l : List ℕ). at l i) (held c) ∙ listed-at (named c) 0 natives i h
+held-at c i h = ap (λ (l : List ℕ). at l i) (listed c) ∙ listed-at (named c) 0 natives i h
 
 natives-unchecked-requires : tie.Need-natives-unchecked-requires
 natives-unchecked-requires c κs = search needs
@@ -42,10 +41,7 @@ build-from-requires c κs =
     let s = n .before .before .before .before .before in (
       s .pre .0,
       (
-        record {
-          long = ap (λ (l : List ℕ). length l) (held n) ∙ length-from (named n) 0 natives;
-          small = listed-small (named n) (4 ^ qubits) (native-lt side (lit< tt) (ofBytes side (s .args .mx .now)) (ofBytes side (s .args .my .now))) (n .natives-unchecked .result .strings) (held n);
-        },
+        held qubits (named n) (native-lt side (lit< tt) (ofBytes side (s .args .mx .now)) (ofBytes side (s .args .my .now))) (n .natives-unchecked .result .strings) (listed n),
         ap (λ (r : Natives). r .kept) (n .natives-unchecked .ensures) ∙ flags-same (named n) (at (n .natives-unchecked .result .strings)) (λ i h. sym (held-at n i h)),
       ),
     )

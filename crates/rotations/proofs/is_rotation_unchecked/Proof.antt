@@ -1,4 +1,4 @@
--- `builder::is_rotation` meets its contract: both tests, in the definition's order, the first by its flag. Assumes nothing.
+-- `rotations::is_rotation_unchecked` meets its contract: both tests, in the definition's order, the first by its flag. Assumes nothing.
 -- the flag of n says whether it is kept
 use borrow.Author.Needs.{needs}
 use mathlib.Core.Path.{_≡_, sym, ap, _∙_}
@@ -10,8 +10,8 @@ use Rattle.pauli_string.specs.Strings.{qubits, hasPivot}
 use Rattle.native_measurement.specs.Natives.{natives}
 use Rattle.natives.specs.Kept.{kept}
 use Rattle.natives.specs.Arrays.{at}
-use Rattle.builder.proofs.is_rotation.Statement.{statement}
-use Rattle.builder.proofs.is_rotation.Tie as tie
+use Rattle.rotations.proofs.is_rotation_unchecked.Statement.{statement}
+use Rattle.rotations.proofs.is_rotation_unchecked.Tie as tie
 
 flag : (c : tie.Start) → getD (c .args .kept .now) (c .args .n) false ≡ kept (at (c .args .strings .now)) (c .args .n)
 flag c =
@@ -39,8 +39,8 @@ returns-2 c =
     let s = c .before .before .before in
     ap (λ (b : Bool). b && hasPivot qubits (at (s .args .strings .now) (s .args .n))) (sym (c .if1 .left) ∙ flag s)
 
-pub is-rotation-spec : {M : Type 1} → statement M
-is-rotation-spec =
+pub is-rotation-unchecked-spec : {M : Type 1} → statement M
+is-rotation-unchecked-spec =
     tie.close
     (tie.spec
     element-copy-out-if1

@@ -1,26 +1,32 @@
--- `builder::pack_one` meets its contract: a native that is no rotation changes nothing, and another is stored behind the front. Assumes
+-- `rotations::pack_one` meets its contract: a native that is no rotation changes nothing, and another is stored behind the front. Assumes
 -- nothing.
 use borrow.Author.Needs.{needs}
 use mathlib.Core.Path.{sym, subst, _∙_}
-use Prim.Native.Nat.{ℕ, _+_}
+use Prim.Native.Nat.{ℕ, _+_, _<_}
+use native.Mathlib.Omega.{arith}
 use borrow.Author.Tests.{not-true, not-false}
+use lib.Dec.{lit<}
 use lib.ListN.{set}
 use Rattle.pauli_string.specs.Strings.{qubits}
+use Rattle.native_measurement.specs.Natives.{natives}
 use Rattle.natives.specs.Arrays.{at}
-use Rattle.builder.specs.States.{twelve}
-use Rattle.builder.specs.Packed.{Packed}
-use Rattle.builder.proofs.Packed.{packed-skip, packed-more}
-use Rattle.builder.proofs.pack_one.Statement.{statement}
-use Rattle.builder.proofs.pack_one.Tie as tie
+use Rattle.rotations.specs.Packed.{Packed}
+use Rattle.rotations.proofs.Packed.{chosen-front, packed-skip, packed-more}
+use Rattle.rotations.proofs.pack_one.Statement.{statement}
+use Rattle.rotations.proofs.pack_one.Tie as tie
 
-is-rotation-requires : tie.Need-is-rotation-requires
-is-rotation-requires c κs = search needs
+-- the front ends before the array does
+room : (s : tie.Start) → s .args .m < natives
+room s = omega (arith, chosen-front (s .pre .1 .chosen))
+
+is-rotation-unchecked-requires : tie.Need-is-rotation-unchecked-requires
+is-rotation-unchecked-requires c κs = search needs
 
 returns : tie.Need-returns
 returns c =
     let s = c .before .before .before in
     let a = s .args in
-    packed-skip qubits (at (a .strings .now)) (a .rs .now) (a .ns .now) (a .m) (a .n) (sym (c .before .is-rotation .ensures) ∙ not-true (c .before .is-rotation .result) (c .if1 .taken)) (s .pre .1)
+    packed-skip qubits (at (a .strings .now)) (a .rs .now) (a .ns .now) (a .m) (a .n) (sym (c .before .is-rotation-unchecked .ensures) ∙ not-true (c .before .is-rotation-unchecked .result) (c .if1 .taken)) (s .pre .1)
 
 mul-string : tie.Need-mul-string
 mul-string c = search needs
@@ -35,7 +41,7 @@ mul-rs : tie.Need-mul-rs
 mul-rs c = search needs
 
 element-write-rs : tie.Need-element-write-rs
-element-write-rs c = search needs
+element-write-rs c = room (c .before .before .before .before .before)
 
 cast-ns : tie.Need-cast-ns
 cast-ns c = search needs
@@ -44,7 +50,7 @@ mul-ns : tie.Need-mul-ns
 mul-ns c = search needs
 
 element-write-ns : tie.Need-element-write-ns
-element-write-ns c = search needs
+element-write-ns c = room (c .before .before .before .before .before)
 
 add-result : tie.Need-add-result
 add-result c = search needs
@@ -56,14 +62,14 @@ returns-2 c =
     let f = at (a .strings .now) in
     let i = c .before .before .before in
     subst (λ (r : ℕ). Packed qubits f (set (a .rs .now) (a .m) r) (set (a .ns .now) (a .m) (a .n)) (a .m + 1) (a .n + 1)) (sym (c .zero-pivot-unchecked .ensures))
-    (packed-more qubits twelve f (a .rs .now) (a .ns .now) (a .m) (a .n) (s .pre .0 .0) (s .pre .1)
-    (sym (i .is-rotation .ensures) ∙ not-false (i .is-rotation .result) (c .before .before .if1 .left)) (s .pre .0 .1 .small (a .n)))
+    (packed-more qubits (lit< tt) f (a .rs .now) (a .ns .now) (a .m) (a .n) (s .pre .0 .0) (s .pre .1)
+    (sym (i .is-rotation-unchecked .ensures) ∙ not-false (i .is-rotation-unchecked .result) (c .before .before .if1 .left)) (s .pre .0 .1 .small (a .n)))
 
 pub pack-one-spec : {M : Type 1} → statement M
 pack-one-spec =
     tie.close
     (tie.spec
-    is-rotation-requires
+    is-rotation-unchecked-requires
     returns
     mul-string
     shared-slice-read-string

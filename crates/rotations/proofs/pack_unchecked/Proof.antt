@@ -1,13 +1,14 @@
--- `builder::pack` meets its contract: where some natives are left, the rotations among those before them are in front. Assumes nothing.
+-- `rotations::pack_unchecked` meets its contract: where some natives are left, the rotations among those before them are in front. Assumes
+-- nothing.
 use borrow.Author.Needs.{needs}
 use mathlib.Core.Path.{_≡_, subst}
 use Prim.Native.Nat.{_+_, _≤_, _-_}
 use native.Mathlib.Omega.{arith}
 use Rattle.pauli_string.specs.Strings.{qubits}
 use Rattle.natives.specs.Arrays.{at}
-use Rattle.builder.specs.Packed.{Packed}
-use Rattle.builder.proofs.pack.Statement.{statement}
-use Rattle.builder.proofs.pack.Tie as tie
+use Rattle.rotations.specs.Packed.{Packed}
+use Rattle.rotations.proofs.pack_unchecked.Statement.{statement}
+use Rattle.rotations.proofs.pack_unchecked.Tie as tie
 
 abbrev Inv-loop : tie.InvT-loop
 Inv-loop strings kept rs₀ ns₀ m₀ left₀ rs ns m left = (left ≤ 540) × Packed qubits (at strings) rs ns m (540 - left)
@@ -46,8 +47,8 @@ returns c =
     let z : 540 - l .loop .left ≡ 540 = omega arith in
     subst (Packed qubits (at (a .strings .now)) (l .loop .rs) (l .loop .ns) (l .loop .m)) z (l .loop .inv .1)
 
-pub pack-spec : {M : Type 1} → statement M
-pack-spec =
+pub pack-unchecked-spec : {M : Type 1} → statement M
+pack-unchecked-spec =
     tie.close
     (tie.spec
     Inv-loop

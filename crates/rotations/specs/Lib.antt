@@ -1,0 +1,2 @@
+-- What the contracts of `rotations` cite.
+pub mod Packed
