@@ -1,0 +1,69 @@
+-- What holds of every refusal, and of the plan where nothing is refused, holds of what a lookup answers and writes. Assumes nothing.
+use mathlib.Core.Path.{_≡_, refl}
+use mathlib.Core.Bool.{Bool, true, false, cond, _&&_, and-eq-true-iff}
+use mathlib.Core.List.{List}
+use Prim.Native.Nat.{ℕ, _*_, _≤_}
+use lib.Dec.{eqb, ltb}
+use borrow.Author.Tests.{eqb-false, ltb-false}
+use Rattle.bicycle_common.specs.declared.Pauli.the-variants.{X, Z, Y}
+use Rattle.bicycle_common.specs.declared.Refusal.{Refusal}
+use Rattle.bicycle_common.specs.declared.Refusal.the-variants.{StringRange, Identity, PivotSet, NoEntry, BadEntry, Room}
+use Rattle.bicycle_common.specs.declared.Outcome.{Outcome}
+use Rattle.bicycle_common.specs.declared.Outcome.the-variants.{Done, Refused as NotDone}
+use Rattle.pauli_string.specs.Strings.{isString, hasPivot}
+use Rattle.measurement.specs.Matrices.{ofBytes}
+use Rattle.measurement.specs.Measures.{nativeString}
+use Rattle.table.specs.Bytes.{entry}
+use Rattle.table.specs.Entries.{depth}
+use Rattle.table.specs.Answers.{given}
+use Rattle.lookup.specs.Walks.{good, sound, best, candidate}
+use Rattle.lookup.specs.Answers.{Lookup, refusing, planned, found, walked, free, whereGiven, exact, pivotFree}
+
+module _ (P : Lookup → Type 0) where
+  -- by a test, whose outcome is known on either side
+  by : (b : Bool) (o w : Lookup) → (b ≡ true → P o) → (b ≡ false → P w) → P (cond b o w)
+  by true o w h k = h refl
+  by false o w h k = k refl
+
+  module _ (no : (r : Refusal) → P (refusing r)) where
+    module _ (q : ℕ) (f e : ℕ → ℕ) (room : ℕ) where
+      pub walked-case : (p : ℕ) → ((e p ≡ 0 → ⊥) → good q f e p ≡ true → 2 * depth (e p) ≤ room → P (planned q f e p)) → P (walked q f e p room)
+      walked-case p h =
+          by (eqb (e p) 0) (refusing NoEntry) (cond (good q f e p) (found q f e p room) (refusing BadEntry)) (λ z. no NoEntry)
+          (λ some. by (good q f e p) (found q f e p room) (refusing BadEntry)
+          (λ g. by (ltb room (2 * depth (e p))) (refusing (Room (2 * depth (e p)))) (planned q f e p) (λ z. no (Room (2 * depth (e p))))
+          (λ l. h (eqb-false (e p) 0 some) g (ltb-false room (2 * depth (e p)) l)))
+          (λ z. no BadEntry))
+
+      pub free-case : (p : ℕ) → P (walked q f e (best e (candidate q p X) (candidate q p Z) (candidate q p Y)) room) → P (free q f e p room)
+      free-case p h =
+          let x = candidate q p X in
+          let z = candidate q p Z in
+          let y = candidate q p Y in
+          by (sound q f e x && sound q f e z && sound q f e y) (walked q f e (best e x z y) room) (refusing BadEntry) (λ s. h) (λ s. no BadEntry)
+
+    given-case : (g : Outcome) (o : Lookup) → (g ≡ Done → P o) → P (whereGiven g o)
+    given-case Done o h = h refl
+    given-case (NotDone r) o h = no r
+
+    module _ (q s : ℕ) (t mx my : List ℕ) (p room : ℕ) where
+      abbrev f : ℕ → ℕ
+      f = nativeString s (ofBytes s mx) (ofBytes s my)
+
+      pub exact-case : ((p ≡ 0 → ⊥) → P (walked q f (entry t) p room)) → P (exact q s t mx my p room)
+      unfolding exact
+      exact-case h =
+          let w = walked q f (entry t) p room in
+          given-case (given q s t mx my) (cond (isString q p) (cond (eqb p 0) (refusing Identity) w) (refusing StringRange))
+          (λ g. by (isString q p) (cond (eqb p 0) (refusing Identity) w) (refusing StringRange)
+          (λ i. by (eqb p 0) (refusing Identity) w (λ z. no Identity) (λ z. h (eqb-false p 0 z)))
+          (λ i. no StringRange))
+
+      pub pivot-free-case : P (free q f (entry t) p room) → P (pivotFree q s t mx my p room)
+      unfolding pivotFree
+      pivot-free-case h =
+          let w = free q f (entry t) p room in
+          given-case (given q s t mx my) (cond (isString q p) (cond (hasPivot q p) (refusing PivotSet) w) (refusing StringRange))
+          (λ g. by (isString q p) (cond (hasPivot q p) (refusing PivotSet) w) (refusing StringRange)
+          (λ i. by (hasPivot q p) (refusing PivotSet) w (λ z. no PivotSet) (λ z. h))
+          (λ i. no StringRange))

@@ -1,0 +1,146 @@
+-- What a lookup answers is a true plan on any table, and where every index meets its rule each string with an entry has one. Going down a
+-- walk and then up by its rotations ends where it began, because a rotation undoes itself. Assumes nothing.
+use mathlib.Core.Path.{_≡_, refl, sym, ap, subst, _∙_}
+use mathlib.Core.Bool.{Bool, true, cond, _&&_}
+use mathlib.Core.Logic.{⊎-elim}
+use mathlib.Core.List.{List}
+use Prim.Native.Nat.{ℕ, zero, suc, _+_, _-_, _^_, _≤_, _<_}
+use native.Mathlib.Omega.{arith}
+use lib.Dec.{eqb}
+use borrow.Author.Tests.{eqb-true, eq-eqb, ne-eqb}
+use Rattle.bicycle_common.specs.declared.Pauli.the-variants.{X, Z, Y}
+use Rattle.bicycle_common.specs.Ranges.{listFrom}
+use Rattle.bicycle_common.proofs.Ranges.{length-from}
+use Rattle.pauli_string.specs.Strings.{hasPivot}
+use Rattle.pauli_string.proofs.Pivot.{rotate-rotate, rotate-string, rotate-nonzero}
+use Rattle.measurement.specs.Matrices.{ofBytes}
+use Rattle.measurement.specs.Measures.{nativeString}
+use Rattle.shortest.specs.Graphs.{Has}
+use Rattle.table.specs.Bytes.{entry}
+use Rattle.table.specs.Entries.{depth, field, KeptFor, Rotation, leads}
+use Rattle.table.specs.Rules.{NoNative, Down, Deep, Rule}
+use Rattle.table.specs.Plans.{Nonzero, applied, All}
+use Rattle.table.proofs.Rules.{native-or-none, rule-valid}
+use Rattle.lookup.specs.declared.LookupAnswer.{LookupAnswer}
+use Rattle.lookup.specs.declared.LookupAnswer.the-variants.{Is, Refused}
+use Rattle.lookup.specs.declared.MeasurementImpl.{MeasurementImpl}
+use Rattle.lookup.specs.Walks.{named, stands, next, down, good, bottom, rotationAt, rotations, best, candidate}
+use Rattle.lookup.specs.Answers.{Lookup, planned, walked, exact, pivotFree}
+use Rattle.lookup.specs.Truth.{Truly}
+use Rattle.lookup.proofs.Walks.{Valid, stands-valid, At, good-at, good-all}
+use Rattle.lookup.proofs.Cases.{walked-case, free-case, exact-case, pivot-free-case}
+
+-- ---- a good walk is a plan
+
+all-from : (P : ℕ → Type 0) (g : ℕ → ℕ) (i k : ℕ) → ((j : ℕ) → j < i + k → P (g j)) → All P (listFrom g i k)
+unfolding listFrom
+all-from P g i zero h = tt
+all-from P g i (suc k) h = (h i (omega arith), all-from P g (suc i) k (λ j l. h j (omega arith)))
+
+module _ (q : ℕ) (f e : ℕ → ℕ) (p : ℕ) where
+  -- up from place m by the rotations from place i on
+  upward : (m i : ℕ) → i + m ≡ depth (e p) → applied q f (down q f e p m) (listFrom (rotationAt q f e p) i m) ≡ p
+  unfolding listFrom down next
+  upward zero i z = refl
+  upward (suc m) i z =
+      let x = down q f e p m in
+      let w : depth (e p) - 1 - i ≡ m = omega arith in
+      let back : leads q f (leads q f x (named (e x))) (rotationAt q f e p i) ≡ x =
+      ap (λ (k : ℕ). leads q f (leads q f x (named (e x))) (named (e (down q f e p k)))) w ∙ rotate-rotate q x (f (named (e x))) in
+      ap (λ (y : ℕ). applied q f y (listFrom (rotationAt q f e p) (suc i) m)) back ∙ upward m (suc i) (omega arith)
+
+  module _ (g : good q f e p ≡ true) where
+    place : (k : ℕ) → k ≤ depth (e p) → Valid q f (e (down q f e p k)) (depth (e p) - k) (down q f e p k)
+    place k l = stands-valid q f (e (down q f e p k)) (depth (e p) - k) (down q f e p k) (good-at q f e p g k l)
+
+    at-end : KeptFor f (bottom q f e p) (named (e (bottom q f e p)))
+    at-end =
+        let d = depth (e p) in
+        let v = place d (omega arith) in
+        let z : d - d ≡ 0 = omega arith in
+        let fits : cond (eqb (d - d) 0) (eqb (f (named (e (bottom q f e p)))) (bottom q f e p)) (hasPivot q (f (named (e (bottom q f e p))))) ≡ true = v .fits in
+        record {
+          below = v .below;
+          is-kept = v .is-kept;
+          measures = eqb-true (f (named (e (bottom q f e p)))) (bottom q f e p) (sym (ap (λ (b : Bool). cond b (eqb (f (named (e (bottom q f e p)))) (bottom q f e p)) (hasPivot q (f (named (e (bottom q f e p)))))) (eq-eqb (d - d) 0 z)) ∙ fits);
+        }
+
+    above-end : (i : ℕ) → i < depth (e p) → Rotation q f (rotationAt q f e p i)
+    above-end i l =
+        let k = depth (e p) - 1 - i in
+        let n = named (e (down q f e p k)) in
+        let v = place k (omega arith) in
+        let pivot : hasPivot q (f n) ≡ true =
+        sym (ap (λ (b : Bool). cond b (eqb (f n) (down q f e p k)) (hasPivot q (f n))) (ne-eqb (depth (e p) - k) 0 (λ z. omega arith))) ∙ v .fits in
+        record { below = v .below; is-rotation = ap (λ (b : Bool). b && hasPivot q (f n)) (v .is-kept) ∙ pivot }
+
+    implemented : Truly q f p (planned q f e p)
+    implemented = record {
+      measures = refl;
+      base-kept = at-end;
+      counted = sym (length-from (rotationAt q f e p) 0 (depth (e p)));
+      turns = all-from (Rotation q f) (rotationAt q f e p) 0 (depth (e p)) (λ j l. above-end j (omega arith));
+      gives = upward (depth (e p)) 0 (omega arith);
+    }
+
+walked-true : (q : ℕ) (f e : ℕ → ℕ) (p room : ℕ) → Truly q f p (walked q f e p room)
+walked-true q f e p room = walked-case (Truly q f p) (λ r. tt) q f e room p (λ some g l. implemented q f e p g)
+
+-- ---- on any table
+
+module _ (q s : ℕ) (t mx my : List ℕ) (p room : ℕ) where
+  abbrev strings : ℕ → ℕ
+  strings = nativeString s (ofBytes s mx) (ofBytes s my)
+
+  pub exact-true : Truly q strings p (exact q s t mx my p room)
+  exact-true = exact-case (Truly q strings p) (λ r. tt) q s t mx my p room (λ some. walked-true q strings (entry t) p room)
+
+  pub pivot-free-true : Truly q strings (best (entry t) (candidate q p X) (candidate q p Z) (candidate q p Y)) (pivotFree q s t mx my p room)
+  pivot-free-true =
+      let w = best (entry t) (candidate q p X) (candidate q p Z) (candidate q p Y) in
+      pivot-free-case (Truly q strings w) (λ r. tt) q s t mx my p room
+      (free-case (Truly q strings w) (λ r. tt) q strings (entry t) room p (walked-true q strings (entry t) w room))
+
+-- ---- on a table that meets the rules
+
+module _ (q : ℕ) (f e : ℕ → ℕ) (small : (n : ℕ) → f n < 4 ^ q) (ok : (p : ℕ) → p < 4 ^ q → Rule q f e p) where
+  -- a string of depth above 0 is no native
+  deep-none : (x : ℕ) → Nonzero q x → 1 ≤ depth (e x) → (n : ℕ) × KeptFor f x n → ⊥
+  deep-none x i l m = omega (arith, ok x (i .below) .native-string (i .some) (m .0) (m .1) .0)
+
+  -- such a string leads down by one
+  steps-down : (x : ℕ) → Nonzero q x → Has e x → 1 ≤ depth (e x) → Nonzero q (next q f e x) × Has e (next q f e x) × (depth (e (next q f e x)) + 1 ≡ depth (e x))
+  unfolding next
+  steps-down x i h l = ⊎-elim (λ m. absurd (deep-none x i l m)) (λ none. down-by (ok x (i .below) .other (i .some) none h)) (native-or-none f x)
+    where
+      down-by : Deep q f e x → Nonzero q (leads q f x (named (e x))) × Has e (leads q f x (named (e x))) × (depth (e (leads q f x (named (e x)))) + 1 ≡ depth (e x))
+      down-by d =
+          let n = d .down .0 in
+          let w = d .down .1 in
+          let z : named (e x) ≡ n = omega (arith, w .named) in
+          let y = leads q f x (named (e x)) in
+          let has : Has e y = subst (λ (k : ℕ). Has e (leads q f x k)) (sym z) (w .has) in
+          let less : depth (e y) ≡ depth (e x) - 1 = subst (λ (k : ℕ). depth (e (leads q f x k)) ≡ depth (e x) - 1) (sym z) (w .less) in (
+            record { below = rotate-string q x (f (named (e x))) (i .below) (small (named (e x))); some = λ v. i .some (rotate-nonzero q x (f (named (e x))) v) },
+            has,
+            omega (arith, less),
+          )
+
+  module _ (p : ℕ) (i : Nonzero q p) (h : Has e p) where
+    ruled : (k : ℕ) → k ≤ depth (e p) → Nonzero q (down q f e p k) × Has e (down q f e p k) × (depth (e (down q f e p k)) + k ≡ depth (e p))
+    unfolding down
+    ruled zero l = (i, h, omega arith)
+    ruled (suc k) l =
+        let r = ruled k (omega arith) in
+        let s = steps-down (down q f e p k) (r .0) (r .1) (omega (arith, r .2)) in
+        (s .0, s .1, omega (arith, s .2, r .2))
+
+    -- every walk from an entry is good
+    pub rule-good : good q f e p ≡ true
+    rule-good = good-all q f e p (λ k l. stand k (ruled k l))
+      where
+        stand : (k : ℕ) → Nonzero q (down q f e p k) × Has e (down q f e p k) × (depth (e (down q f e p k)) + k ≡ depth (e p)) → At q f e p k ≡ true
+        stand k r =
+            let x = down q f e p k in
+            let d : depth (e x) ≡ depth (e p) - k = omega (arith, r .2) in
+            rw (eq-eqb (depth (e x)) (depth (e p) - k) d) (rule-valid q f e x (ok x (r .0 .below)) (r .0 .some) (r .1))

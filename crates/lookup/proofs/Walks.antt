@@ -1,0 +1,172 @@
+-- Laws of the walk: its places one by one, that it stays among the strings, and that a good walk has a valid entry of the right depth at every
+-- place. Assumes nothing.
+use mathlib.Core.Path.{_≡_, refl, sym, ap, ap₂, subst, _∙_}
+use mathlib.Core.Bool.{Bool, true, false, cond, _&&_, and-eq-true-iff}
+use Prim.Native.Nat.{ℕ, zero, suc, _+_, _-_, _^_, _≤_, _<_}
+use native.Mathlib.Numerals.{add-one}
+use native.Mathlib.Omega.{arith}
+use native.Mathlib.Decide.{ℕ-discrete}
+use lib.Dec.{T, eqb, ltb}
+use borrow.Author.Tests.{lt-ltb, le-ltb, eq-eqb, ne-eqb, eqb-true, ltb-true}
+use Rattle.bicycle_common.specs.Ranges.{allBelow}
+use Rattle.bicycle_common.proofs.Ranges.{all-below, all-true, all-false}
+use Rattle.pauli_string.specs.Strings.{hasPivot}
+use Rattle.pauli_string.proofs.Pivot.{rotate-string}
+use Rattle.native_measurement.specs.Natives.{natives}
+use Rattle.natives.specs.Kept.{kept}
+use Rattle.table.specs.Entries.{depth, field, leads, valid, validBy}
+use Rattle.lookup.specs.Walks.{named, stands, next, down, good, sound, better, best}
+
+-- ---- valid entries
+
+pub valid-none : (q : ℕ) (f : ℕ → ℕ) (v x : ℕ) → field v ≡ 0 → valid q f v x ≡ false
+valid-none q f v x z =
+    let low : ltb 0 (field v) ≡ false = le-ltb 0 (field v) (omega arith) in
+    rw low
+
+pub valid-over : (q : ℕ) (f : ℕ → ℕ) (v x : ℕ) → natives < field v → valid q f v x ≡ false
+valid-over q f v x h =
+    let low : ltb 0 (field v) ≡ true = lt-ltb 0 (field v) (omega arith) in
+    let high : ltb (field v) (natives + 1) ≡ false = le-ltb (field v) (natives + 1) (omega arith) in
+    rw (low, high)
+
+-- a field that names a native decides by that native
+pub valid-in : (q : ℕ) (f : ℕ → ℕ) (v x : ℕ) → (field v ≡ 0 → ⊥) → field v ≤ natives → valid q f v x ≡ validBy q f v x (named v)
+valid-in q f v x some h =
+    let low : ltb 0 (field v) ≡ true = lt-ltb 0 (field v) (omega arith) in
+    let high : ltb (field v) (natives + 1) ≡ true = lt-ltb (field v) (natives + 1) (omega arith) in
+    rw (low, high)
+
+holds : (b : Bool) → T b → b ≡ true
+holds true t = refl
+holds false t = absurd t
+
+pub all-hold : (n : ℕ) (s : ℕ → Bool) → allBelow n s ≡ true → (j : ℕ) → j < n → s j ≡ true
+all-hold n s z j l = holds (s j) (all-below n s (subst T (sym z) tt) j l)
+
+chosen : (a b : Bool) → cond a b false ≡ true → (a ≡ true) × (b ≡ true)
+chosen true b e = (refl, e)
+chosen false b e = absurd (subst (λ (c : Bool). T c) (sym e) tt)
+
+-- what a valid entry of depth d for x says of the native that it names
+pub record Valid (q : ℕ) (f : ℕ → ℕ) (v d x : ℕ) : Type 0 where
+  pub deep : depth v ≡ d
+  pub some : 0 < field v
+  pub below : named v < natives
+  pub is-kept : kept f (named v) ≡ true
+  pub fits : cond (eqb d 0) (eqb (f (named v)) x) (hasPivot q (f (named v))) ≡ true
+
+pub stands-valid : (q : ℕ) (f : ℕ → ℕ) (v d x : ℕ) → stands q f v d x ≡ true → Valid q f v d x
+stands-valid q f v d x e =
+    let s = and-eq-true-iff (eqb (depth v) d) (valid q f v x) .0 e in
+    let z : depth v ≡ d = eqb-true (depth v) d (s .0) in
+    let c = chosen (ltb 0 (field v) && ltb (field v) (natives + 1)) (validBy q f v x (named v)) (s .1) in
+    let r = and-eq-true-iff (ltb 0 (field v)) (ltb (field v) (natives + 1)) .0 (c .0) in
+    let k = and-eq-true-iff (kept f (named v)) (cond (eqb (depth v) 0) (eqb (f (named v)) x) (hasPivot q (f (named v)))) .0 (c .1) in
+    let low : 0 < field v = ltb-true 0 (field v) (r .0) in
+    let high : field v < natives + 1 = ltb-true (field v) (natives + 1) (r .1) in
+    record {
+      deep = z;
+      some = low;
+      below = omega arith;
+      is-kept = k .0;
+      fits = subst (λ (j : ℕ). cond (eqb j 0) (eqb (f (named v)) x) (hasPivot q (f (named v))) ≡ true) z (k .1);
+    }
+
+-- ---- places
+
+module _ (q : ℕ) (f e : ℕ → ℕ) (p : ℕ) where
+  pub down-none : down q f e p 0 ≡ p
+  unfolding down
+  down-none = refl
+
+  pub down-next : (k : ℕ) → down q f e p (k + 1) ≡ leads q f (down q f e p k) (named (e (down q f e p k)))
+  unfolding down next
+  down-next k = rw add-one
+
+  -- from x at place k, of which v is the value, the rotation that v names leads to the next place
+  pub down-step : (x v k : ℕ) → x ≡ down q f e p k → v ≡ e x → leads q f x (named v) ≡ down q f e p (k + 1)
+  down-step x v k a b = ap (λ (w : ℕ). leads q f x (named w)) b ∙ ap (λ (y : ℕ). leads q f y (named (e y))) a ∙ sym (down-next k)
+
+  -- the walk stays among the strings
+  pub down-string : ((n : ℕ) → f n < 4 ^ q) → p < 4 ^ q → (k : ℕ) → down q f e p k < 4 ^ q
+  unfolding down next
+  down-string small h zero = h
+  down-string small h (suc k) = rotate-string q (down q f e p k) (f (named (e (down q f e p k)))) (down-string small h k) (small (named (e (down q f e p k))))
+
+  -- place k stands
+  abbrev pub At : ℕ → Bool
+  At k = stands q f (e (down q f e p k)) (depth (e p) - k) (down q f e p k)
+
+  pub at-place : (x v d k : ℕ) → x ≡ down q f e p k → v ≡ e x → d ≡ depth (e p) → stands q f v (d - k) x ≡ At k
+  at-place x v d k a b z =
+      ap₂ (λ (w j : ℕ). stands q f w (j - k) x) b z ∙ ap (λ (y : ℕ). stands q f (e y) (depth (e p) - k) y) a
+
+  pub good-at : good q f e p ≡ true → (k : ℕ) → k ≤ depth (e p) → At k ≡ true
+  unfolding good
+  good-at g k l = all-hold (depth (e p) + 1) At g k (omega arith)
+
+  pub good-all : ((k : ℕ) → k ≤ depth (e p) → At k ≡ true) → good q f e p ≡ true
+  unfolding good
+  good-all h = all-true (depth (e p) + 1) At (λ k l. h k (omega arith))
+
+  pub good-not : (k : ℕ) → k ≤ depth (e p) → At k ≡ false → good q f e p ≡ false
+  unfolding good
+  good-not k l h = all-false (depth (e p) + 1) At k (omega arith) h
+
+  -- the last place decides where all before it stand
+  pub good-last : ((k : ℕ) → k < depth (e p) → At k ≡ true) → good q f e p ≡ At (depth (e p))
+  good-last h = go (At (depth (e p))) refl
+    where
+      go : (b : Bool) → At (depth (e p)) ≡ b → good q f e p ≡ At (depth (e p))
+      go false z = good-not (depth (e p)) (omega arith) z ∙ sym z
+      go true z = good-all (λ k l. upto k l) ∙ sym z
+        where
+          upto : (k : ℕ) → k ≤ depth (e p) → At k ≡ true
+          upto k l = elim (ℕ-discrete k (depth (e p))) [ yes w ↦ ap At w ∙ z | no w ↦ h k (omega arith) ]
+
+  -- ---- sound strings
+
+  pub sound-none : e p ≡ 0 → sound q f e p ≡ true
+  unfolding sound
+  sound-none z = rw (eq-eqb (e p) 0 z)
+
+  -- a sound string with an entry has a good walk
+  pub sound-some : (e p ≡ 0 → ⊥) → sound q f e p ≡ good q f e p
+  unfolding sound
+  sound-some h = rw (ne-eqb (e p) 0 h)
+
+-- ---- the better of two strings
+
+module _ (e : ℕ → ℕ) (a b : ℕ) where
+  pub better-second : e a ≡ 0 → better e a b ≡ b
+  unfolding better
+  better-second z = rw (eq-eqb (e a) 0 z)
+
+  module _ (h : e a ≡ 0 → ⊥) where
+    pub better-first : e b ≡ 0 → better e a b ≡ a
+    unfolding better
+    better-first z = rw (ne-eqb (e a) 0 h, eq-eqb (e b) 0 z)
+
+    pub better-fewer : (e b ≡ 0 → ⊥) → depth (e b) < depth (e a) → better e a b ≡ b
+    unfolding better
+    better-fewer k l = rw (ne-eqb (e a) 0 h, ne-eqb (e b) 0 k, lt-ltb (depth (e b)) (depth (e a)) l)
+
+    pub better-equal : (e b ≡ 0 → ⊥) → depth (e a) ≤ depth (e b) → better e a b ≡ a
+    unfolding better
+    better-equal k l = rw (ne-eqb (e a) 0 h, ne-eqb (e b) 0 k, le-ltb (depth (e b)) (depth (e a)) l)
+
+  chosen-of : (P : ℕ → Type 0) (x y z : Bool) → P a → P b → P (cond x b (cond y a (cond z b a)))
+  chosen-of P true y z ha hb = hb
+  chosen-of P false true z ha hb = ha
+  chosen-of P false false true ha hb = hb
+  chosen-of P false false false ha hb = ha
+
+  -- it is one of the two
+  pub better-of : (P : ℕ → Type 0) → P a → P b → P (better e a b)
+  unfolding better
+  better-of P ha hb = chosen-of P (eqb (e a) 0) (eqb (e b) 0) (ltb (depth (e b)) (depth (e a))) ha hb
+
+-- the best of three is one of them
+pub best-of : (e : ℕ → ℕ) (x z y : ℕ) (P : ℕ → Type 0) → P x → P z → P y → P (best e x z y)
+best-of e x z y P hx hz hy = better-of e (better e x z) y P (better-of e x z P hx hz) hy

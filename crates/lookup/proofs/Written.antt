@@ -1,0 +1,78 @@
+-- What a lookup writes is counted by its answer and has room in the buffer, so that the front of the buffer is what was written. Assumes
+-- nothing.
+use mathlib.Core.Path.{_≡_, refl, sym, ap, subst, _∙_}
+use mathlib.Core.List.{List, [], _∷_, _++_}
+use Prim.Native.Nat.{ℕ, _+_, _*_, _≤_}
+use native.Mathlib.Omega.{arith}
+use lib.ListN.{length, take, drop}
+use lib.Seq.{sets, sets-eq, take-at}
+use Rattle.bicycle_common.specs.declared.Pauli.the-variants.{X, Z, Y}
+use Rattle.bicycle_common.specs.declared.Refusal.{Refusal}
+use Rattle.bicycle_common.proofs.Ranges.{length-from}
+use Rattle.measurement.specs.Matrices.{ofBytes}
+use Rattle.measurement.specs.Measures.{nativeString}
+use Rattle.table.specs.Bytes.{entry}
+use Rattle.table.specs.Entries.{depth}
+use Rattle.lookup.specs.declared.LookupAnswer.{LookupAnswer}
+use Rattle.lookup.specs.declared.LookupAnswer.the-variants.{Is, Refused}
+use Rattle.lookup.specs.declared.MeasurementImpl.{MeasurementImpl}
+use Rattle.lookup.specs.Walks.{rotationAt, best, candidate}
+use Rattle.lookup.specs.Answers.{twoBytes, Lookup, Leaves, walked, exact, pivotFree}
+use Rattle.lookup.proofs.Cases.{walked-case, free-case, exact-case, pivot-free-case}
+
+-- ns is counted by the answer, with room for two bytes each; a refusal goes with no number at all
+abbrev Counts : ℕ → LookupAnswer → List ℕ → Type 0
+Counts room (Is m) ns = (m .rotations ≡ length ns) × (2 * length ns ≤ room)
+Counts room (Refused r) ns = ns ≡ []
+
+abbrev pub Counted : ℕ → Lookup → Type 0
+Counted room o = Counts room (o .answer) (o .written)
+
+module _ (q : ℕ) (f e : ℕ → ℕ) (room : ℕ) where
+  walked-counted : (p : ℕ) → Counted room (walked q f e p room)
+  walked-counted p =
+      let l = length-from (rotationAt q f e p) 0 (depth (e p)) in
+      walked-case (Counted room) (λ r. refl) q f e room p (λ some g h. (sym l, omega (arith, l)))
+
+module _ (q s : ℕ) (t mx my : List ℕ) (p room : ℕ) where
+  abbrev f : ℕ → ℕ
+  f = nativeString s (ofBytes s mx) (ofBytes s my)
+
+  pub exact-counted : Counted room (exact q s t mx my p room)
+  exact-counted = exact-case (Counted room) (λ r. refl) q s t mx my p room (λ some. walked-counted q f (entry t) room p)
+
+  pub pivot-free-counted : Counted room (pivotFree q s t mx my p room)
+  pivot-free-counted =
+      pivot-free-case (Counted room) (λ r. refl) q s t mx my p room
+      (free-case (Counted room) (λ r. refl) q f (entry t) room p
+      (walked-counted q f (entry t) room (best (entry t) (candidate q p X) (candidate q p Z) (candidate q p Y))))
+
+-- ---- the front
+
+two-bytes-length : (ns : List ℕ) → length (twoBytes ns) ≡ 2 * length ns
+unfolding twoBytes
+two-bytes-length [] = refl
+two-bytes-length (n ∷ ns) = omega (arith, two-bytes-length ns)
+
+module _ (o : Lookup) (l : List ℕ) (h : Counted (length l) o) (a : LookupAnswer) (m : List ℕ) (w : Leaves o l a m) where
+  counts : Counts (length l) a (o .written)
+  counts = subst (λ (x : LookupAnswer). Counts (length l) x (o .written)) (sym (w .answer)) h
+
+  -- of a plan the front is what was written
+  pub front-is : (i : MeasurementImpl) → a ≡ Is i → take (2 * i .rotations) m ≡ twoBytes (o .written)
+  front-is i z =
+      let k : Counts (length l) (Is i) (o .written) = subst (λ (x : LookupAnswer). Counts (length l) x (o .written)) z counts in
+      let b = twoBytes (o .written) in
+      let n : length b ≡ 2 * i .rotations = omega (arith, two-bytes-length (o .written), k .0) in
+      let fits : 0 + length b ≤ length l = omega (arith, two-bytes-length (o .written), k .1) in
+      ap (take (2 * i .rotations)) (w .buffer ∙ sets-eq b l 0 fits) ∙ take-at b (drop (0 + length b) l) (2 * i .rotations) n
+
+  -- of a refusal nothing was
+  pub front-none : (r : Refusal) → a ≡ Refused r → [] ≡ twoBytes (o .written)
+  unfolding twoBytes
+  front-none r z = ap twoBytes (sym (subst (λ (x : LookupAnswer). Counts (length l) x (o .written)) z counts))
+
+  pub front-fits : (i : MeasurementImpl) → a ≡ Is i → 2 * i .rotations ≡ length (take (2 * i .rotations) m)
+  front-fits i z =
+      let k : Counts (length l) (Is i) (o .written) = subst (λ (x : LookupAnswer). Counts (length l) x (o .written)) z counts in
+      omega (arith, two-bytes-length (o .written), k .0, ap (λ (x : List ℕ). length x) (front-is i z))

@@ -1,0 +1,96 @@
+-- What the lookups answer, and the natives that they write: the lowest number of 1, 3, 4, 5 (6 without the pivot), 7, 8, 9 that applies, or
+-- the plan. Assumes nothing.
+use mathlib.Core.Bool.{cond, _&&_}
+use mathlib.Core.List.{List, [], _∷_}
+use mathlib.Core.Path.{_≡_}
+use Prim.Native.Nat.{ℕ, _*_, _/_, _%_}
+use lib.Dec.{eqb, ltb}
+use lib.Seq.{sets}
+use Rattle.bicycle_common.specs.declared.Pauli.the-variants.{X, Z, Y}
+use Rattle.bicycle_common.specs.declared.Refusal.{Refusal}
+use Rattle.bicycle_common.specs.declared.Refusal.the-variants.{StringRange, Identity, PivotSet, NoEntry, BadEntry, Room}
+use Rattle.bicycle_common.specs.declared.Outcome.{Outcome}
+use Rattle.bicycle_common.specs.declared.Outcome.the-variants.{Done, Refused as NotDone}
+use Rattle.bicycle_common.specs.Refusals.{Told, answered, refused}
+use Rattle.pauli_string.specs.Strings.{isString, hasPivot}
+use Rattle.measurement.specs.Matrices.{ofBytes}
+use Rattle.measurement.specs.Measures.{nativeString}
+use Rattle.table.specs.Bytes.{entry}
+use Rattle.table.specs.Entries.{depth}
+use Rattle.table.specs.Answers.{given}
+use Rattle.lookup.specs.declared.LookupAnswer.{LookupAnswer}
+use Rattle.lookup.specs.declared.LookupAnswer.the-variants.{Is, Refused}
+use Rattle.lookup.specs.Walks.{named, good, bottom, rotations, sound, best, candidate}
+
+-- the string measured, the base's native number and its string, the count of rotations
+abbrev pub toldLookup : LookupAnswer → Told
+toldLookup (Is m) = answered (m .measures .0 ∷ m .base .native .0 ∷ m .base .measures .0 ∷ m .rotations ∷ [])
+toldLookup (Refused r) = refused 4 r
+
+-- two bytes for each number, low first
+unfoldable pub twoBytes : List ℕ → List ℕ
+twoBytes [] = []
+twoBytes (n ∷ ns) = n % 256 ∷ n / 256 ∷ twoBytes ns
+
+-- what is answered, and the natives of the rotations that are written
+pub record Lookup : Type 0 where
+  pub answer : LookupAnswer
+  pub written : List ℕ
+
+-- a refusal writes nothing
+abbrev pub refusing : Refusal → Lookup
+refusing r = record { answer = Refused r; written = [] }
+
+-- the call answers r and leaves in the buffer what it writes, in front; the bytes behind are as they were
+pub record Leaves (o : Lookup) (before : List ℕ) (r : LookupAnswer) (after : List ℕ) : Type 0 where
+  pub answer : r ≡ o .answer
+  pub buffer : after ≡ sets before 0 (twoBytes (o .written))
+
+-- the plan for p: native n, which measures the string b, and d rotations, whose natives are ns
+abbrev pub planBy : ℕ → ℕ → ℕ → ℕ → List ℕ → Lookup
+planBy b n d p ns = record {
+  answer = Is (record { base = record { native = record { 0 = n }; measures = record { 0 = b } }; rotations = d; measures = record { 0 = p } });
+  written = ns;
+}
+
+module _ (q : ℕ) (f e : ℕ → ℕ) where
+  -- the plan that the walk from p tells
+  abbrev pub planned : ℕ → Lookup
+  planned p = planBy (bottom q f e p) (named (e (bottom q f e p))) (depth (e p)) p (rotations q f e p)
+
+  -- 9 where the buffer has less than two bytes for each rotation
+  abbrev pub found : ℕ → ℕ → Lookup
+  found p room = cond (ltb room (2 * depth (e p))) (refusing (Room (2 * depth (e p)))) (planned p)
+
+  -- 7 for value 0, 8 for a bad walk
+  abbrev pub walked : ℕ → ℕ → Lookup
+  walked p room = cond (eqb (e p) 0) (refusing NoEntry) (cond (good q f e p) (found p room) (refusing BadEntry))
+
+  -- of three candidates: 8 where any with an entry has a bad walk, else the lookup of the best of them, which says 7 where none has an entry
+  abbrev pub bestOf : ℕ → ℕ → ℕ → ℕ → Lookup
+  bestOf x z y room = cond (sound q f e x && sound q f e z && sound q f e y) (walked (best e x z y) room) (refusing BadEntry)
+
+  -- p with X, Z, Y on the pivot
+  abbrev pub free : ℕ → ℕ → Lookup
+  free p room = bestOf (candidate q p X) (candidate q p Z) (candidate q p Y) room
+
+-- what is answered where a table and a pair are given
+abbrev pub whereGiven : Outcome → Lookup → Lookup
+whereGiven Done o = o
+whereGiven (NotDone r) o = refusing r
+
+-- the exact lookup of p in the table t of a pair, with a buffer of length room
+unfoldable pub exact : ℕ → ℕ → List ℕ → List ℕ → List ℕ → ℕ → ℕ → Lookup
+exact q s t mx my p room =
+    whereGiven (given q s t mx my)
+    (cond (isString q p)
+    (cond (eqb p 0) (refusing Identity) (walked q (nativeString s (ofBytes s mx) (ofBytes s my)) (entry t) p room))
+    (refusing StringRange))
+
+-- the pivot-free lookup
+unfoldable pub pivotFree : ℕ → ℕ → List ℕ → List ℕ → List ℕ → ℕ → ℕ → Lookup
+pivotFree q s t mx my p room =
+    whereGiven (given q s t mx my)
+    (cond (isString q p)
+    (cond (hasPivot q p) (refusing PivotSet) (free q (nativeString s (ofBytes s mx) (ofBytes s my)) (entry t) p room))
+    (refusing StringRange))

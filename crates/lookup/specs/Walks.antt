@@ -1,0 +1,62 @@
+-- The walk from a string down to a native: at each place the value names the rotation that leads to the next. f n is the string of native n,
+-- e p the value at index p, over q qubits. Assumes nothing.
+use mathlib.Core.Bool.{Bool, true, cond, _&&_}
+use mathlib.Core.List.{List}
+use Prim.Native.Nat.{ℕ, zero, suc, _+_, _-_}
+use lib.Dec.{eqb, ltb}
+use Rattle.bicycle_common.specs.declared.Pauli.{Pauli}
+use Rattle.bicycle_common.specs.Ranges.{allBelow, listed}
+use Rattle.pauli_string.specs.Strings.{setLetter}
+use Rattle.table.specs.Entries.{depth, field, leads, valid}
+
+-- the native that the field of a value names
+abbrev pub named : ℕ → ℕ
+named v = field v - 1
+
+-- the value v is a valid entry for x, of depth d
+abbrev pub stands : ℕ → (ℕ → ℕ) → ℕ → ℕ → ℕ → Bool
+stands q f v d x = eqb (depth v) d && valid q f v x
+
+module _ (q : ℕ) (f e : ℕ → ℕ) where
+  -- the string to which the rotation named at x leads
+  unfoldable pub next : ℕ → ℕ
+  next x = leads q f x (named (e x))
+
+  -- the string at place k of the walk from p
+  unfoldable pub down : ℕ → ℕ → ℕ
+  down p zero = p
+  down p (suc k) = next (down p k)
+
+  -- at every place of the walk from p stands a valid entry for its string, and the next depth is one less
+  unfoldable pub good : ℕ → Bool
+  good p = allBelow (depth (e p) + 1) (λ (k : ℕ). stands q f (e (down p k)) (depth (e p) - k) (down p k))
+
+  -- the string at its end
+  abbrev pub bottom : ℕ → ℕ
+  bottom p = down p (depth (e p))
+
+  -- the native of the rotation that stands at place i when the base side comes first
+  abbrev pub rotationAt : ℕ → ℕ → ℕ
+  rotationAt p i = named (e (down p (depth (e p) - 1 - i)))
+
+  -- the natives of its rotations, base side first
+  abbrev pub rotations : ℕ → List ℕ
+  rotations p = listed (rotationAt p) (depth (e p))
+
+  -- p has no entry, or a good walk
+  unfoldable pub sound : ℕ → Bool
+  sound p = cond (eqb (e p) 0) true (good p)
+
+-- ---- the pivot-free choice
+
+-- of two strings the one that has an entry, of both the one with fewer rotations, a where they are equal
+unfoldable pub better : (ℕ → ℕ) → ℕ → ℕ → ℕ
+better e a b = cond (eqb (e a) 0) b (cond (eqb (e b) 0) a (cond (ltb (depth (e b)) (depth (e a))) b a))
+
+-- of three: fewest rotations wins, the first of equals; those without an entry are passed over
+abbrev pub best : (ℕ → ℕ) → ℕ → ℕ → ℕ → ℕ
+best e x z y = better e (better e x z) y
+
+-- p with a letter on the pivot
+abbrev pub candidate : ℕ → ℕ → Pauli → ℕ
+candidate q p l = setLetter q p 0 l

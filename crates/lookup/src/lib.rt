@@ -1,0 +1,372 @@
+// The lookups: from a string down a lent table to a native, exact or for the best letter on the pivot.
+//
+// From `MeasurementImpl`, `NativeMeasurementImpl`, `implementation` and `min_data` in
+// crates/bicycle_cliffords/src/decomposition.rs of the Bicycle Architecture Compiler. Changed: written anew in Rattle, with
+// contracts; the table is lent bytes and the natives are formed inside the call; the vector of rotations became native
+// numbers in a lent buffer, their count in the answer; `assert!` and `unwrap` became refusals; every value on the walk is
+// tested before a byte is written, so that any bytes may be lent; `min_data` passes over letters without an entry.
+//
+// Copyright contributors to the Bicycle Architecture Compiler project. Licensed under the Apache License, Version 2.0
+// (see NOTICE).
+use bicycle_common::Outcome;
+use bicycle_common::Pauli;
+use bicycle_common::Refusal;
+use native_measurement::NativeNumber;
+use pauli_string::PauliString;
+use pauli_string::STRINGS;
+ghost use mathlib.Core.Path.{_≡_};
+ghost use mathlib.Core.Bool.{true, false};
+ghost use Prim.Native.Nat.{ℕ, _+_, _*_, _/_, _%_, _^_, _<_, _≤_};
+ghost use lib.ListN.{length, set};
+ghost use lib.Seq.{sets};
+ghost use Rattle.pauli_string.specs.Strings.{qubits, hasPivot};
+ghost use Rattle.native_measurement.specs.Natives.{natives};
+ghost use Rattle.measurement.specs.Matrices.{side, ofBytes, isBytes};
+ghost use Rattle.measurement.specs.Measures.{nativeString};
+ghost use Rattle.natives.specs.Arrays.{at, Held};
+ghost use Rattle.table.specs.Bytes.{tableLength, entry};
+ghost use Rattle.table.specs.Entries.{depth, leads, valid};
+ghost use Rattle.lookup.specs.Walks;
+ghost use Rattle.lookup.specs.Walks.{stands, good, bottom, rotations, sound};
+ghost use Rattle.lookup.specs.Answers.{twoBytes, Leaves, found, walked, bestOf, free, exact, pivotFree};
+
+// A native, and the string that it measures.
+pub struct NativeMeasurementImpl {
+    pub native: NativeNumber,
+    pub measures: PauliString,
+}
+
+// A plan: the base, the count of the rotations, whose natives stand in the lent buffer, and the string measured.
+pub struct MeasurementImpl {
+    pub base: NativeMeasurementImpl,
+    pub rotations: u32,
+    pub measures: PauliString,
+}
+
+pub enum LookupAnswer {
+    Is(MeasurementImpl),
+    Refused(Refusal),
+}
+
+// ---- one place of a walk
+
+// Whether the value v is a valid entry for string p.
+fn is_valid(strings: &[u32; 540], v: u32, p: u32) -> bool
+    requires { ⌜ Held qubits (now strings) ⌝ }
+    ensures { λ r. ⌜ r ≡ valid qubits (at (now (strings .entry))) v p ⌝ }
+{
+    let field = v % 1024;
+    if field == 0 {
+        return false;
+    }
+    if 540 < field {
+        return false;
+    }
+    let n = (field - 1) as usize;
+    if !natives::is_kept_unchecked(strings, n) {
+        return false;
+    }
+    let string = strings[n];
+    if v / 1024 == 0 {
+        return string == p;
+    }
+    PauliString(string).has_pivot_support_unchecked()
+}
+
+// The same, and of depth d.
+fn stands(strings: &[u32; 540], v: u32, d: u32, p: u32) -> bool
+    requires { ⌜ Held qubits (now strings) ⌝ }
+    ensures { λ r. ⌜ r ≡ stands qubits (at (now (strings .entry))) v d p ⌝ }
+{
+    if v / 1024 == d {
+        return is_valid(strings, v, p);
+    }
+    false
+}
+
+// The string to which the rotation by native n leads from p.
+fn next(strings: &[u32; 540], p: u32, n: u32) -> u32
+    requires { ⌜ (p < 4 ^ qubits) × (n < natives) × Held qubits (now strings) ⌝ }
+    ensures { λ r. ⌜ r ≡ leads qubits (at (now (strings .entry))) p n ⌝ }
+{
+    let i = n as usize;
+    let string = strings[i];
+    let x = PauliString(p).rotate_unchecked(PauliString(string));
+    x.0
+}
+
+// ---- the walk
+
+// Whether the walk from p is good, down to its end. The depth falls by one at each place.
+fn is_good(table: &[u8], strings: &[u32; 540], p: u32) -> bool
+    requires { ⌜ (length (now table) ≡ tableLength qubits) × (p < 4 ^ qubits) × Held qubits (now strings) ⌝ }
+    ensures { λ r. ⌜ r ≡ good qubits (at (now (strings .entry))) (entry (now (table .entry))) p ⌝ }
+{
+    let mut at = p;
+    let mut v = table::entry_unchecked(table, p);
+    let d = v / 1024;
+    let mut k: u32 = 0;
+    while k < d {
+        if !stands(strings, v, d - k, at) {
+            return false;
+        }
+        at = next(strings, at, v % 1024 - 1);
+        v = table::entry_unchecked(table, at);
+        k += 1;
+    }
+    stands(strings, v, 0, at)
+}
+
+// Number n as two bytes, low first, the i-th pair of the buffer.
+fn put_number(out: &mut [u8], i: usize, n: u32)
+    requires { ⌜ (2 * i + 2 ≤ length (now out)) × (n < natives) ⌝ }
+    ensures { λ r. ⌜ now (out .exit) ≡ set (set (now (out .entry)) (2 * i) (n % 256)) (2 * i + 1) (n / 256) ⌝ }
+{
+    let j = 2 * i;
+    out[j] = (n % 256) as u8;
+    out[j + 1] = (n / 256) as u8;
+}
+
+// Writes the natives of the rotations of the good walk from p, which has d of them, base side first. The answer is the
+// string at the walk's end.
+fn write_rotations(table: &[u8], strings: &[u32; 540], p: u32, d: u32, out: &mut [u8]) -> u32
+    requires { ⌜ (length (now table) ≡ tableLength qubits) × (p < 4 ^ qubits) × Held qubits (now strings) ⌝ }
+    requires { ⌜ (d ≡ depth (entry (now table) p)) × (2 * d ≤ length (now out)) × (good qubits (at (now strings)) (entry (now table)) p ≡ true) ⌝ }
+    ensures { λ r. ⌜ (r ≡ bottom qubits (at (now (strings .entry))) (entry (now (table .entry))) p) × (now (out .exit) ≡ sets (now (out .entry)) 0 (twoBytes (rotations qubits (at (now (strings .entry))) (entry (now (table .entry))) p))) ⌝ }
+{
+    let mut at = p;
+    let mut left = d;
+    while 0 < left {
+        let n = table::entry_unchecked(table, at) % 1024 - 1;
+        left -= 1;
+        put_number(out, left as usize, n);
+        at = next(strings, at, n);
+    }
+    at
+}
+
+// ---- the exact lookup
+
+// The plan of the good walk from p, if the buffer has room for it.
+fn found(table: &[u8], strings: &[u32; 540], p: u32, out: &mut [u8]) -> LookupAnswer
+    requires { ⌜ (length (now table) ≡ tableLength qubits) × (p < 4 ^ qubits) × Held qubits (now strings) ⌝ }
+    requires { ⌜ good qubits (at (now strings)) (entry (now table)) p ≡ true ⌝ }
+    ensures { λ r. ⌜ Leaves (found qubits (at (now (strings .entry))) (entry (now (table .entry))) p (length (now (out .entry)))) (now (out .entry)) r (now (out .exit)) ⌝ }
+{
+    let d = table::entry_unchecked(table, p) / 1024;
+    let needed = 2 * d as usize;
+    if out.len() < needed {
+        return LookupAnswer::Refused(Refusal::Room(needed));
+    }
+    let bottom = write_rotations(table, strings, p, d, out);
+    let n = table::entry_unchecked(table, bottom) % 1024 - 1;
+    let base = NativeMeasurementImpl {
+        native: NativeNumber(n as u16),
+        measures: PauliString(bottom),
+    };
+    LookupAnswer::Is(MeasurementImpl {
+        base,
+        rotations: d,
+        measures: PauliString(p),
+    })
+}
+
+// The lookup of a string, over the natives' strings.
+fn look(table: &[u8], strings: &[u32; 540], p: u32, out: &mut [u8]) -> LookupAnswer
+    requires { ⌜ (length (now table) ≡ tableLength qubits) × (p < 4 ^ qubits) × Held qubits (now strings) ⌝ }
+    ensures { λ r. ⌜ Leaves (walked qubits (at (now (strings .entry))) (entry (now (table .entry))) p (length (now (out .entry)))) (now (out .entry)) r (now (out .exit)) ⌝ }
+{
+    if table::entry_unchecked(table, p) == 0 {
+        return LookupAnswer::Refused(Refusal::NoEntry);
+    }
+    if !is_good(table, strings, p) {
+        return LookupAnswer::Refused(Refusal::BadEntry);
+    }
+    found(table, strings, p, out)
+}
+
+// The same, with the natives formed from the pair.
+fn look_pair(table: &[u8], mx: &[u8], my: &[u8], p: u32, out: &mut [u8]) -> LookupAnswer
+    requires { ⌜ (length (now table) ≡ tableLength qubits) × (p < 4 ^ qubits) ⌝ }
+    requires { ⌜ (isBytes side (now mx) ≡ true) × (isBytes side (now my) ≡ true) ⌝ }
+    ensures { λ r. ⌜ Leaves (walked qubits (nativeString side (ofBytes side (now (mx .entry))) (ofBytes side (now (my .entry)))) (entry (now (table .entry))) p (length (now (out .entry)))) (now (out .entry)) r (now (out .exit)) ⌝ }
+{
+    let mut strings = [0u32; 540];
+    natives::strings_unchecked(mx, my, &mut strings);
+    look(table, &strings, p, out)
+}
+
+// The plan of string p by the table of the pair: a native, and rotations whose natives are written to the buffer, base
+// side first, two bytes each, low first.
+pub fn implementation(
+    table: &[u8],
+    mx: &[u8],
+    my: &[u8],
+    p: PauliString,
+    out: &mut [u8],
+) -> LookupAnswer
+    ensures { λ r. ⌜ Leaves (exact qubits side (now (table .entry)) (now (mx .entry)) (now (my .entry)) (p .0) (length (now (out .entry)))) (now (out .entry)) r (now (out .exit)) ⌝ }
+{
+    match table::given(table, mx, my) {
+        Outcome::Refused(r) => LookupAnswer::Refused(r),
+        Outcome::Done => {
+            if p.0 >= STRINGS {
+                return LookupAnswer::Refused(Refusal::StringRange);
+            }
+            if p.0 == 0 {
+                return LookupAnswer::Refused(Refusal::Identity);
+            }
+            look_pair(table, mx, my, p.0, out)
+        }
+    }
+}
+
+// The rotations of `implementation`, which does the work: the front of the caller's own buffer that it filled, empty on a
+// refusal.
+pub fn rotations<'a>(
+    table: &[u8],
+    mx: &[u8],
+    my: &[u8],
+    p: PauliString,
+    out: &'a mut [u8],
+) -> &'a mut [u8]
+    ensures { λ r. ⌜ (now r ≡ twoBytes (exact qubits side (now (table .entry)) (now (mx .entry)) (now (my .entry)) (p .0) (length (now (out .entry))) .written)) × (r .ptr ≡ out .entry .ptr) ⌝ }
+{
+    match implementation(table, mx, my, p, out) {
+        LookupAnswer::Is(m) => {
+            let k = 2 * m.rotations as usize;
+            &mut out[..k]
+        }
+        LookupAnswer::Refused(_) => &mut out[..0],
+    }
+}
+
+// ---- the pivot-free lookup
+
+// Whether p has no entry, or a good walk.
+fn is_sound(table: &[u8], strings: &[u32; 540], p: u32) -> bool
+    requires { ⌜ (length (now table) ≡ tableLength qubits) × (p < 4 ^ qubits) × Held qubits (now strings) ⌝ }
+    ensures { λ r. ⌜ r ≡ sound qubits (at (now (strings .entry))) (entry (now (table .entry))) p ⌝ }
+{
+    if table::entry_unchecked(table, p) == 0 {
+        return true;
+    }
+    is_good(table, strings, p)
+}
+
+// Of two strings the one that has an entry, of both the one with fewer rotations, a where they are equal.
+fn better(table: &[u8], a: u32, b: u32) -> u32
+    requires { ⌜ (length (now table) ≡ tableLength qubits) × (a < 4 ^ qubits) × (b < 4 ^ qubits) ⌝ }
+    ensures { λ r. ⌜ r ≡ Walks.better (entry (now (table .entry))) a b ⌝ }
+{
+    let v = table::entry_unchecked(table, a);
+    if v == 0 {
+        return b;
+    }
+    let w = table::entry_unchecked(table, b);
+    if w == 0 {
+        return a;
+    }
+    if w / 1024 < v / 1024 {
+        return b;
+    }
+    a
+}
+
+// The best of three strings.
+fn best(table: &[u8], x: u32, z: u32, y: u32) -> u32
+    requires { ⌜ (length (now table) ≡ tableLength qubits) × (x < 4 ^ qubits) × (z < 4 ^ qubits) × (y < 4 ^ qubits) ⌝ }
+    ensures { λ r. ⌜ r ≡ Walks.best (entry (now (table .entry))) x z y ⌝ }
+{
+    let first = better(table, x, z);
+    better(table, first, y)
+}
+
+// The lookup of the best of three strings, over the natives' strings.
+fn look_best(
+    table: &[u8],
+    strings: &[u32; 540],
+    x: u32,
+    z: u32,
+    y: u32,
+    out: &mut [u8],
+) -> LookupAnswer
+    requires { ⌜ (length (now table) ≡ tableLength qubits) × (x < 4 ^ qubits) × (z < 4 ^ qubits) × (y < 4 ^ qubits) × Held qubits (now strings) ⌝ }
+    ensures { λ r. ⌜ Leaves (bestOf qubits (at (now (strings .entry))) (entry (now (table .entry))) x z y (length (now (out .entry)))) (now (out .entry)) r (now (out .exit)) ⌝ }
+{
+    if !is_sound(table, strings, x) {
+        return LookupAnswer::Refused(Refusal::BadEntry);
+    }
+    if !is_sound(table, strings, z) {
+        return LookupAnswer::Refused(Refusal::BadEntry);
+    }
+    if !is_sound(table, strings, y) {
+        return LookupAnswer::Refused(Refusal::BadEntry);
+    }
+    let w = best(table, x, z, y);
+    if table::entry_unchecked(table, w) == 0 {
+        return LookupAnswer::Refused(Refusal::NoEntry);
+    }
+    found(table, strings, w, out)
+}
+
+// The same for p with each letter on the pivot.
+fn look_free(table: &[u8], strings: &[u32; 540], p: u32, out: &mut [u8]) -> LookupAnswer
+    requires { ⌜ (length (now table) ≡ tableLength qubits) × (p < 4 ^ qubits) × Held qubits (now strings) ⌝ }
+    ensures { λ r. ⌜ Leaves (free qubits (at (now (strings .entry))) (entry (now (table .entry))) p (length (now (out .entry)))) (now (out .entry)) r (now (out .exit)) ⌝ }
+{
+    let x = PauliString(p).set_pauli_unchecked(0, Pauli::X);
+    let z = PauliString(p).set_pauli_unchecked(0, Pauli::Z);
+    let y = PauliString(p).set_pauli_unchecked(0, Pauli::Y);
+    look_best(table, strings, x.0, z.0, y.0, out)
+}
+
+// The same, with the natives formed from the pair.
+fn free_pair(table: &[u8], mx: &[u8], my: &[u8], p: u32, out: &mut [u8]) -> LookupAnswer
+    requires { ⌜ (length (now table) ≡ tableLength qubits) × (p < 4 ^ qubits) ⌝ }
+    requires { ⌜ (isBytes side (now mx) ≡ true) × (isBytes side (now my) ≡ true) ⌝ }
+    ensures { λ r. ⌜ Leaves (free qubits (nativeString side (ofBytes side (now (mx .entry))) (ofBytes side (now (my .entry)))) (entry (now (table .entry))) p (length (now (out .entry)))) (now (out .entry)) r (now (out .exit)) ⌝ }
+{
+    let mut strings = [0u32; 540];
+    natives::strings_unchecked(mx, my, &mut strings);
+    look_free(table, &strings, p, out)
+}
+
+// The plan for p, which has no letter on the pivot, with the letter there that needs the fewest rotations, the first of
+// X, Z, Y where several do.
+pub fn min_data(table: &[u8], mx: &[u8], my: &[u8], p: PauliString, out: &mut [u8]) -> LookupAnswer
+    ensures { λ r. ⌜ Leaves (pivotFree qubits side (now (table .entry)) (now (mx .entry)) (now (my .entry)) (p .0) (length (now (out .entry)))) (now (out .entry)) r (now (out .exit)) ⌝ }
+{
+    match table::given(table, mx, my) {
+        Outcome::Refused(r) => LookupAnswer::Refused(r),
+        Outcome::Done => {
+            if p.0 >= STRINGS {
+                return LookupAnswer::Refused(Refusal::StringRange);
+            }
+            if p.has_pivot_support_unchecked() {
+                return LookupAnswer::Refused(Refusal::PivotSet);
+            }
+            free_pair(table, mx, my, p.0, out)
+        }
+    }
+}
+
+// The rotations of `min_data`, which does the work: the front of the caller's own buffer that it filled, empty on a
+// refusal.
+pub fn min_data_rotations<'a>(
+    table: &[u8],
+    mx: &[u8],
+    my: &[u8],
+    p: PauliString,
+    out: &'a mut [u8],
+) -> &'a mut [u8]
+    ensures { λ r. ⌜ (now r ≡ twoBytes (pivotFree qubits side (now (table .entry)) (now (mx .entry)) (now (my .entry)) (p .0) (length (now (out .entry))) .written)) × (r .ptr ≡ out .entry .ptr) ⌝ }
+{
+    match min_data(table, mx, my, p, out) {
+        LookupAnswer::Is(m) => {
+            let k = 2 * m.rotations as usize;
+            &mut out[..k]
+        }
+        LookupAnswer::Refused(_) => &mut out[..0],
+    }
+}
