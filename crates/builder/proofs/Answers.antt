@@ -1,16 +1,18 @@
 -- Which answer the definition of a build gives, test by test, and that what is read off a built state is what the definition counts. Assumes
 -- nothing.
-use mathlib.Core.Path.{_≡_, sym, ap, ap₂, subst, _∙_}
-use mathlib.Core.Bool.{true, false}
+use mathlib.Core.Path.{_≡_, refl, sym, ap, ap₂, subst, _∙_}
+use mathlib.Core.Bool.{Bool, true, false, cond, _&&_, and-eq-true-iff}
 use mathlib.Core.List.{List}
 use Prim.Native.Nat.{ℕ, _+_}
+use native.Mathlib.Omega.{arith}
 use Rattle.bicycle_common.specs.declared.Refusal.the-variants.{TableLength, QueueLength, Matrix}
 use Rattle.measurement.specs.Matrices.{ofBytes, isBytes}
 use Rattle.measurement.specs.Measures.{nativeString}
 use Rattle.table.specs.Answers.{isTable, entries, deepest}
-use Rattle.builder.specs.declared.BuildAnswer.the-variants.{Refused}
+use Rattle.builder.specs.declared.Built.{Built}
+use Rattle.builder.specs.declared.BuildAnswer.the-variants.{Is, Refused}
 use Rattle.builder.specs.Model.{State, state, built}
-use Rattle.builder.specs.Answers.{after, is, done, build}
+use Rattle.builder.specs.Answers.{After, after, is, done, build}
 use Rattle.builder.specs.States.{Good}
 use Rattle.builder.proofs.States.{good-counts}
 
@@ -31,6 +33,22 @@ module _ (q s : ℕ) (t u mx my : List ℕ) where
   pub all-right : isTable q t ≡ true → isTable q u ≡ true → isBytes s mx ≡ true → isBytes s my ≡ true
       → done q (built q (nativeString s (ofBytes s mx) (ofBytes s my))) ≡ build q s t u mx my
   all-right e d x y = rw (e, d, x, y)
+
+-- a build that is not refused was given its buffers and a pair
+by-tests : (a b c : Bool) (w : After) (t u : List ℕ) (d : Built)
+    → cond a (cond b (cond c w (after (Refused Matrix) t u)) (after (Refused QueueLength) t u)) (after (Refused TableLength) t u) .answer ≡ Is d
+    → (a ≡ true) × (b ≡ true) × (c ≡ true)
+by-tests true true true w t u d e = (refl, refl, refl)
+by-tests true true false w t u d e = let n : _≡_ {A = ℕ} 0 1 = cc in absurd (omega arith)
+by-tests true false c w t u d e = let n : _≡_ {A = ℕ} 0 1 = cc in absurd (omega arith)
+by-tests false b c w t u d e = let n : _≡_ {A = ℕ} 0 1 = cc in absurd (omega arith)
+
+pub answered-built : (q s : ℕ) (t u mx my : List ℕ) (d : Built) → build q s t u mx my .answer ≡ Is d
+    → (isBytes s mx ≡ true) × (isBytes s my ≡ true) × (build q s t u mx my ≡ done q (built q (nativeString s (ofBytes s mx) (ofBytes s my))))
+answered-built q s t u mx my d e =
+    let h = by-tests (isTable q t) (isTable q u) (isBytes s mx && isBytes s my) (done q (built q (nativeString s (ofBytes s mx) (ofBytes s my)))) t u d e in
+    let m = and-eq-true-iff (isBytes s mx) (isBytes s my) .0 (h .2) in
+    (m .0, m .1, sym (all-right q s t u mx my (h .0) (h .1) (m .0) (m .1)))
 
 -- the entries are the strings in the queue and the identity
 pub built-outcome : (q : ℕ) (t u : List ℕ) (c d : ℕ) (b : State) → state t u c ≡ b → Good q b → d ≡ deepest q t

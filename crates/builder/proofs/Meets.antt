@@ -16,11 +16,10 @@ use Rattle.shortest.specs.Graphs.{Has, Rules, steps}
 use Rattle.shortest.specs.Search.{Found, Phase, sources, place, turn, Search}
 use Rattle.shortest.specs.Search.{begins, known-source, new-source, searches, takes, passes, finds, leaves}
 use Rattle.shortest.proofs.Search.{search-listed, search-found, search-ends}
-use Rattle.shortest.proofs.Shortest.{least, reached}
 use Rattle.table.specs.Bytes.{tableLength, entry, put, zeros}
 use Rattle.table.specs.Entries.{depth, value, identity, KeptFor, isRotation, Rotation, leads}
 use Rattle.table.specs.Rules.{Rule}
-use Rattle.table.specs.Plans.{Nonzero, Base, graph, values, Plan}
+use Rattle.table.specs.Plans.{Nonzero, Base, graph, values}
 use Rattle.table.proofs.Bytes.{entry-put-same, entry-put-other, entry-zeros, length-zeros}
 use Rattle.table.proofs.Entries.{value-depth, value-names}
 use Rattle.table.proofs.Rules.{kept-for, rule}
@@ -309,14 +308,6 @@ module _ (q : ℕ) (F : Fits q) (f : ℕ → ℕ) (small : (n : ℕ) → f n < 4
 
   pub built-rule : (p : ℕ) → p < 4 ^ q → Rule q f (entry (built q f .table)) p
   built-rule = rule q f small (entry (built q f .table)) built-identity built-rules
-
-  -- no plan is shorter than an entry says
-  pub built-shortest : (p k : ℕ) → Plan q f small k p → Has (entry (built q f .table)) p × (depth (entry (built q f .table) p) ≤ k)
-  built-shortest = least (graph q f small) (steps (graph q f small)) values (entry (built q f .table)) built-rules
-
-  -- and each entry has a plan
-  pub built-planned : (p : ℕ) → Nonzero q p → Has (entry (built q f .table)) p → Plan q f small (depth (entry (built q f .table) p)) p
-  built-planned = reached (graph q f small) (steps (graph q f small)) values (entry (built q f .table)) built-rules
 
   pub built-depth : (p : ℕ) → p < 4 ^ q → depth (entry (built q f .table) p) ≤ 4 ^ (q - 1) - 1
   built-depth p l = elim (ℕ-discrete (entry (built q f .table) p) 0) [

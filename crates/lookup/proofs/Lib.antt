@@ -6,3 +6,4 @@ pub mod Answers
 pub mod Cases
 pub mod Written
 pub mod Truth
+pub mod Ruled

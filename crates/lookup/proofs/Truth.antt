@@ -1,5 +1,5 @@
--- What a lookup answers is a true plan on any table, and where every index meets its rule each string with an entry has one. Going down a
--- walk and then up by its rotations ends where it began, because a rotation undoes itself. Assumes nothing.
+-- What a lookup answers is a true plan, on any table: going down a walk and then up by its rotations ends where it began, because a rotation
+-- undoes itself. Assumes nothing.
 use mathlib.Core.Path.{_≡_, refl, sym, ap, subst, _∙_}
 use mathlib.Core.Bool.{Bool, true, cond, _&&_}
 use mathlib.Core.Logic.{⊎-elim}
@@ -100,47 +100,3 @@ module _ (q s : ℕ) (t mx my : List ℕ) (p room : ℕ) where
       let w = best (entry t) (candidate q p X) (candidate q p Z) (candidate q p Y) in
       pivot-free-case (Truly q strings w) (λ r. tt) q s t mx my p room
       (free-case (Truly q strings w) (λ r. tt) q strings (entry t) room p (walked-true q strings (entry t) w room))
-
--- ---- on a table that meets the rules
-
-module _ (q : ℕ) (f e : ℕ → ℕ) (small : (n : ℕ) → f n < 4 ^ q) (ok : (p : ℕ) → p < 4 ^ q → Rule q f e p) where
-  -- a string of depth above 0 is no native
-  deep-none : (x : ℕ) → Nonzero q x → 1 ≤ depth (e x) → (n : ℕ) × KeptFor f x n → ⊥
-  deep-none x i l m = omega (arith, ok x (i .below) .native-string (i .some) (m .0) (m .1) .0)
-
-  -- such a string leads down by one
-  steps-down : (x : ℕ) → Nonzero q x → Has e x → 1 ≤ depth (e x) → Nonzero q (next q f e x) × Has e (next q f e x) × (depth (e (next q f e x)) + 1 ≡ depth (e x))
-  unfolding next
-  steps-down x i h l = ⊎-elim (λ m. absurd (deep-none x i l m)) (λ none. down-by (ok x (i .below) .other (i .some) none h)) (native-or-none f x)
-    where
-      down-by : Deep q f e x → Nonzero q (leads q f x (named (e x))) × Has e (leads q f x (named (e x))) × (depth (e (leads q f x (named (e x)))) + 1 ≡ depth (e x))
-      down-by d =
-          let n = d .down .0 in
-          let w = d .down .1 in
-          let z : named (e x) ≡ n = omega (arith, w .named) in
-          let y = leads q f x (named (e x)) in
-          let has : Has e y = subst (λ (k : ℕ). Has e (leads q f x k)) (sym z) (w .has) in
-          let less : depth (e y) ≡ depth (e x) - 1 = subst (λ (k : ℕ). depth (e (leads q f x k)) ≡ depth (e x) - 1) (sym z) (w .less) in (
-            record { below = rotate-string q x (f (named (e x))) (i .below) (small (named (e x))); some = λ v. i .some (rotate-nonzero q x (f (named (e x))) v) },
-            has,
-            omega (arith, less),
-          )
-
-  module _ (p : ℕ) (i : Nonzero q p) (h : Has e p) where
-    ruled : (k : ℕ) → k ≤ depth (e p) → Nonzero q (down q f e p k) × Has e (down q f e p k) × (depth (e (down q f e p k)) + k ≡ depth (e p))
-    unfolding down
-    ruled zero l = (i, h, omega arith)
-    ruled (suc k) l =
-        let r = ruled k (omega arith) in
-        let s = steps-down (down q f e p k) (r .0) (r .1) (omega (arith, r .2)) in
-        (s .0, s .1, omega (arith, s .2, r .2))
-
-    -- every walk from an entry is good
-    pub rule-good : good q f e p ≡ true
-    rule-good = good-all q f e p (λ k l. stand k (ruled k l))
-      where
-        stand : (k : ℕ) → Nonzero q (down q f e p k) × Has e (down q f e p k) × (depth (e (down q f e p k)) + k ≡ depth (e p)) → At q f e p k ≡ true
-        stand k r =
-            let x = down q f e p k in
-            let d : depth (e x) ≡ depth (e p) - k = omega (arith, r .2) in
-            rw (eq-eqb (depth (e x)) (depth (e p) - k) d) (rule-valid q f e x (ok x (r .0 .below)) (r .0 .some) (r .1))

@@ -5,7 +5,7 @@ use mathlib.Core.Bool.{Bool, true, false, cond, _&&_, and-eq-true-iff}
 use Prim.Native.Nat.{ℕ, zero, suc, _+_, _-_, _^_, _≤_, _<_}
 use native.Mathlib.Numerals.{add-one}
 use native.Mathlib.Omega.{arith}
-use native.Mathlib.Decide.{ℕ-discrete}
+use native.Mathlib.Decide.{ℕ-discrete, decLt}
 use lib.Dec.{T, eqb, ltb}
 use borrow.Author.Tests.{lt-ltb, le-ltb, eq-eqb, ne-eqb, eqb-true, ltb-true}
 use Rattle.bicycle_common.specs.Ranges.{allBelow}
@@ -167,6 +167,48 @@ module _ (e : ℕ → ℕ) (a b : ℕ) where
   unfolding better
   better-of P ha hb = chosen-of P (eqb (e a) 0) (eqb (e b) 0) (ltb (depth (e b)) (depth (e a))) ha hb
 
+  -- where one of the two has an entry, it has one, and no more rotations
+  pub better-least-first : (e a ≡ 0 → ⊥) → (e (better e a b) ≡ 0 → ⊥) × (depth (e (better e a b)) ≤ depth (e a))
+  better-least-first h = elim (ℕ-discrete (e b) 0) [
+    | yes z ↦ subst Least (sym (better-first h z)) (h, omega arith)
+    | no k ↦ elim (decLt (depth (e b)) (depth (e a))) [
+      | yes l ↦ subst Least (sym (better-fewer h k l)) (k, omega arith)
+      | no g ↦ subst Least (sym (better-equal h k (omega arith))) (h, omega arith)
+    ]
+  ]
+    where
+      Least : ℕ → Type 0
+      Least x = (e x ≡ 0 → ⊥) × (depth (e x) ≤ depth (e a))
+
+  pub better-least-second : (e b ≡ 0 → ⊥) → (e (better e a b) ≡ 0 → ⊥) × (depth (e (better e a b)) ≤ depth (e b))
+  better-least-second k = elim (ℕ-discrete (e a) 0) [
+    | yes z ↦ subst Least (sym (better-second z)) (k, omega arith)
+    | no h ↦ elim (decLt (depth (e b)) (depth (e a))) [
+      | yes l ↦ subst Least (sym (better-fewer h k l)) (k, omega arith)
+      | no g ↦ subst Least (sym (better-equal h k (omega arith))) (h, omega arith)
+    ]
+  ]
+    where
+      Least : ℕ → Type 0
+      Least x = (e x ≡ 0 → ⊥) × (depth (e x) ≤ depth (e b))
+
 -- the best of three is one of them
 pub best-of : (e : ℕ → ℕ) (x z y : ℕ) (P : ℕ → Type 0) → P x → P z → P y → P (best e x z y)
 best-of e x z y P hx hz hy = better-of e (better e x z) y P (better-of e x z P hx hz) hy
+
+-- where one of the three has an entry, it has one, and no more rotations
+module _ (e : ℕ → ℕ) (x z y : ℕ) where
+  abbrev Least : ℕ → ℕ → Type 0
+  Least c w = (e w ≡ 0 → ⊥) × (depth (e w) ≤ depth (e c))
+
+  through : (c : ℕ) → Least c (better e x z) → Least c (best e x z y)
+  through c h = let k = better-least-first e (better e x z) y (h .0) in (k .0, omega (arith, k .1, h .1))
+
+  pub best-least-first : (e x ≡ 0 → ⊥) → Least x (best e x z y)
+  best-least-first h = through x (better-least-first e x z h)
+
+  pub best-least-second : (e z ≡ 0 → ⊥) → Least z (best e x z y)
+  best-least-second h = through z (better-least-second e x z h)
+
+  pub best-least-third : (e y ≡ 0 → ⊥) → Least y (best e x z y)
+  best-least-third h = better-least-second e (better e x z) y h

@@ -20,6 +20,7 @@ use Rattle.table.specs.Entries.{depth}
 use Rattle.table.specs.Answers.{given}
 use Rattle.lookup.specs.declared.LookupAnswer.{LookupAnswer}
 use Rattle.lookup.specs.declared.LookupAnswer.the-variants.{Is, Refused}
+use Rattle.lookup.specs.declared.MeasurementImpl.{MeasurementImpl}
 use Rattle.lookup.specs.Walks.{named, good, bottom, rotations, sound, best, candidate}
 
 -- the string measured, the base's native number and its string, the count of rotations
@@ -46,12 +47,13 @@ pub record Leaves (o : Lookup) (before : List ℕ) (r : LookupAnswer) (after : L
   pub answer : r ≡ o .answer
   pub buffer : after ≡ sets before 0 (twoBytes (o .written))
 
--- the plan for p: native n, which measures the string b, and d rotations, whose natives are ns
+-- the plan for p: native n, which measures the string b, and d rotations
+abbrev pub implBy : ℕ → ℕ → ℕ → ℕ → MeasurementImpl
+implBy b n d p = record { base = record { native = record { 0 = n }; measures = record { 0 = b } }; rotations = d; measures = record { 0 = p } }
+
+-- the same as an answer, beside the rotations' natives
 abbrev pub planBy : ℕ → ℕ → ℕ → ℕ → List ℕ → Lookup
-planBy b n d p ns = record {
-  answer = Is (record { base = record { native = record { 0 = n }; measures = record { 0 = b } }; rotations = d; measures = record { 0 = p } });
-  written = ns;
-}
+planBy b n d p ns = record { answer = Is (implBy b n d p); written = ns }
 
 module _ (q : ℕ) (f e : ℕ → ℕ) where
   -- the plan that the walk from p tells

@@ -3,3 +3,4 @@ pub mod Edges
 pub mod Strings
 pub mod Natives
 pub mod Tables
+pub mod Lookups

@@ -22,7 +22,7 @@ use Rattle.table.specs.Rules.{Rule}
 use Rattle.table.specs.Plans.{Nonzero, Gives, Sequence}
 use Rattle.table.specs.Answers.{isTable, entries, deepest}
 use Rattle.table.proofs.Rules.{rules, rule-valid}
-use Rattle.table.proofs.Plans.{sequence-plan, plan-sequence}
+use Rattle.table.proofs.Plans.{sequence-reaches, entry-sequence}
 use Rattle.builder.specs.Model.{built}
 use Rattle.builder.specs.Answers.{toldBuild, build, done}
 use Rattle.builder.specs.States.{twelve}
@@ -68,17 +68,15 @@ module _ (mx my : Matrix) where
 
   -- an entry has a plan of its depth: a kept native and that many rotations, which applied in order to its string give the string
   pub entry-has-a-plan : (p : ℕ) → Nonzero qubits p → Has value p → Sequence qubits f (depth (value p)) p
-  entry-has-a-plan p i h = plan-sequence qubits f small (depth (value p)) p (Meets.built-planned qubits twelve f small p i h)
+  entry-has-a-plan = entry-sequence qubits f small value every-index-meets-its-rule
 
   -- and no shorter sequence of natives with pivot support, kept or not, gives it from any native
   pub no-sequence-is-shorter : (b : ℕ) (ns : List ℕ) (p : ℕ) → Gives qubits f b ns p → (p ≡ 0 → ⊥) → depth (value p) ≤ length ns
-  no-sequence-is-shorter b ns p g some =
-      Meets.built-shortest qubits twelve f small p (length ns) (sequence-plan qubits f small b ns p g some) .1
+  no-sequence-is-shorter b ns p g some = sequence-reaches qubits f small value every-index-meets-its-rule b ns p g some .1
 
   -- a string without an entry is reached by no sequence of any length
   pub no-entry-no-sequence : (b : ℕ) (ns : List ℕ) (p : ℕ) → Gives qubits f b ns p → (p ≡ 0 → ⊥) → value p ≡ 0 → ⊥
-  no-entry-no-sequence b ns p g some =
-      Meets.built-shortest qubits twelve f small p (length ns) (sequence-plan qubits f small b ns p g some) .0
+  no-entry-no-sequence b ns p g some = sequence-reaches qubits f small value every-index-meets-its-rule b ns p g some .0
 
   pub depth-never-passes : (p : ℕ) → p < 4 ^ qubits → depth (value p) ≤ 4194303
   depth-never-passes = Meets.built-depth qubits twelve f small

@@ -79,6 +79,11 @@ entry-put-other t p v r h =
       put-byte-other t p v (4 * r + 3) (omega arith) (omega arith) (omega arith) (omega arith),
     )
 
+-- a value is one of four bytes
+pub entry-lt : (t : List ℕ) → ((i : ℕ) → getD t i 0 < 256) → (p : ℕ) → entry t p < 2 ^ 32
+unfolding entry
+entry-lt t h p = omega (arith, h (4 * p), h (4 * p + 1), h (4 * p + 2), h (4 * p + 3))
+
 -- ---- zeros
 
 pub getD-zeros : (n i : ℕ) → getD (zeros n) i 0 ≡ 0

@@ -3,7 +3,7 @@
 use mathlib.Core.Path.{_≡_, refl, sym, ap, subst, _∙_}
 use mathlib.Core.Bool.{true}
 use mathlib.Core.List.{List, [], _∷_, _++_}
-use Prim.Native.Nat.{ℕ, _+_, _^_, _<_}
+use Prim.Native.Nat.{ℕ, _+_, _^_, _≤_, _<_}
 use native.Mathlib.Omega.{arith}
 use lib.ListN.{length, length-append}
 use Rattle.pauli_string.specs.Strings.{blank, hasPivot, rotate}
@@ -11,10 +11,12 @@ use Rattle.pauli_string.proofs.Commutation.{conj-zero}
 use Rattle.native_measurement.specs.Natives.{natives}
 use Rattle.natives.specs.Kept.{keptFor, Keeper}
 use Rattle.natives.proofs.Kept.{keeper-for}
-use Rattle.shortest.specs.Graphs.{start, step}
-use Rattle.table.specs.Entries.{Rotation, leads}
-use Rattle.table.proofs.Rules.{kept-for}
-use Rattle.table.specs.Plans.{Base, Plan, applied, All, Supported, Gives, Sequence}
+use Rattle.shortest.specs.Graphs.{Has, start, step, steps}
+use Rattle.shortest.proofs.Shortest.{least, reached}
+use Rattle.table.specs.Entries.{depth, Rotation, leads}
+use Rattle.table.specs.Rules.{Rule}
+use Rattle.table.proofs.Rules.{kept-for, rules}
+use Rattle.table.specs.Plans.{Nonzero, Base, graph, values, Plan, applied, All, Supported, Gives, Sequence}
 
 -- ---- from a sequence to a plan
 
@@ -46,7 +48,7 @@ module _ (q : ℕ) (f : ℕ → ℕ) (small : (n : ℕ) → f n < 4 ^ q) where
       ap (λ (x : ℕ). applied q f x ns) z ∙ applied-zero ns
 
   -- what a sequence gives has a plan of that length
-  pub sequence-plan : (b : ℕ) (ns : List ℕ) (p : ℕ) → Gives q f b ns p → (p ≡ 0 → ⊥) → Plan q f small (length ns) p
+  sequence-plan : (b : ℕ) (ns : List ℕ) (p : ℕ) → Gives q f b ns p → (p ≡ 0 → ⊥) → Plan q f small (length ns) p
   sequence-plan b ns p g some =
       let nonzero : f b ≡ 0 → ⊥ = λ z. some (sym (g .gives) ∙ ap (λ (x : ℕ). applied q f x ns) z ∙ applied-zero ns) in
       let base : Base q f (f b) (keptFor f (f b)) = record {
@@ -56,6 +58,12 @@ module _ (q : ℕ) (f : ℕ → ℕ) (small : (n : ℕ) → f n < 4 ^ q) where
       let z : 0 + length ns ≡ length ns = omega arith in
       subst (Plan q f small (length ns)) (g .gives)
       (subst (λ (k : ℕ). Plan q f small k (applied q f (f b) ns)) z (plan-on 0 (f b) ns (start base) (g .supported)))
+
+  -- where every index meets its rule, what a sequence gives has an entry, of a depth that is no greater than the sequence is long
+  pub sequence-reaches : (e : ℕ → ℕ) → ((p : ℕ) → p < 4 ^ q → Rule q f e p) → (b : ℕ) (ns : List ℕ) (p : ℕ) → Gives q f b ns p → (p ≡ 0 → ⊥)
+      → Has e p × (depth (e p) ≤ length ns)
+  sequence-reaches e ok b ns p g some =
+      least (graph q f small) (steps (graph q f small)) values e (rules q f small e ok) p (length ns) (sequence-plan b ns p g some)
 
   -- ---- and back
 
@@ -68,7 +76,7 @@ module _ (q : ℕ) (f : ℕ → ℕ) (small : (n : ℕ) → f n < 4 ^ q) where
   rotations-append (m ∷ ns) n s r = (s .0, rotations-append ns n (s .1) r)
 
   -- a plan is a kept native and rotations in order
-  pub plan-sequence : (k p : ℕ) → Plan q f small k p → Sequence q f k p
+  plan-sequence : (k p : ℕ) → Plan q f small k p → Sequence q f k p
   plan-sequence k p (start {n = n} b) = record {
     base = n;
     base-below = b .keeps .below;
@@ -90,3 +98,8 @@ module _ (q : ℕ) (f : ℕ → ℕ) (small : (n : ℕ) → f n < 4 ^ q) where
         long = length-append (s .list) (n ∷ []) ∙ ap (λ (m : ℕ). m + 1) (s .long);
         gives = applied-append (f (s .base)) (s .list) n ∙ ap (λ (y : ℕ). leads q f y n) (s .gives);
       }
+
+  -- where every index meets its rule, an entry has a sequence of its depth
+  pub entry-sequence : (e : ℕ → ℕ) → ((p : ℕ) → p < 4 ^ q → Rule q f e p) → (p : ℕ) → Nonzero q p → Has e p → Sequence q f (depth (e p)) p
+  entry-sequence e ok p i h =
+      plan-sequence (depth (e p)) p (reached (graph q f small) (steps (graph q f small)) values e (rules q f small e ok) p i h)

@@ -1,18 +1,13 @@
 -- `lookup::free_pair` meets its contract: a lookup reads the strings of the natives alone, and these are listed. Assumes nothing.
 use borrow.Author.Needs.{needs}
-use mathlib.Core.Path.{_≡_, ap, subst, _∙_}
-use mathlib.Core.List.{List}
-use Prim.Native.Nat.{ℕ, _<_}
-use lib.Dec.{lit<}
+use mathlib.Core.Path.{subst}
+use Prim.Native.Nat.{ℕ}
 use lib.ListN.{length}
-use Rattle.bicycle_common.proofs.Ranges.{listed-at}
 use Rattle.pauli_string.specs.Strings.{qubits}
-use Rattle.native_measurement.specs.Natives.{natives}
 use Rattle.measurement.specs.Matrices.{side, ofBytes}
 use Rattle.measurement.specs.Measures.{nativeString}
-use Rattle.measurement.proofs.Strings.{native-lt}
 use Rattle.natives.specs.Arrays.{at}
-use Rattle.natives.proofs.Arrays.{held}
+use Rattle.natives.proofs.Arrays.{strings-at, strings-held}
 use Rattle.table.specs.Bytes.{entry}
 use Rattle.bicycle_common.specs.declared.Pauli.the-variants.{X, Z, Y}
 use Rattle.lookup.specs.Walks.{candidate}
@@ -34,7 +29,7 @@ strings-unchecked-requires c κs = search needs
 look-free-requires : tie.Need-look-free-requires
 look-free-requires c κs =
     let s = c .before .before .before .before .before .before .before .before .before in
-    (s .pre .0 .0, s .pre .0 .1, held qubits (f s) (native-lt side (lit< tt) (ofBytes side (s .args .mx .now)) (ofBytes side (s .args .my .now))) (c .before .before .before .strings-unchecked .last .1 .1 .0) (c .before .before .before .strings-unchecked .ensures))
+    (s .pre .0 .0, s .pre .0 .1, strings-held (ofBytes side (s .args .mx .now)) (ofBytes side (s .args .my .now)) (c .before .before .before .strings-unchecked .last .1 .1 .0) (c .before .before .before .strings-unchecked .ensures))
 
 same-length : tie.Need-same-length
 same-length c = search needs
@@ -44,7 +39,7 @@ returns c =
     let s = c .before .before .before .before .before .before .before .before .before .before .before .before in
     let l = s .args .out .now in
     let strings = c .before .before .before .before .before .before .strings-unchecked .last .1 .1 .0 in
-    let same : (n : ℕ) → n < natives → at strings n ≡ f s n = λ n h. ap (λ (m : List ℕ). at m n) (c .before .before .before .before .before .before .strings-unchecked .ensures) ∙ listed-at (f s) 0 natives n h in
+    let same = strings-at (ofBytes side (s .args .mx .now)) (ofBytes side (s .args .my .now)) strings (c .before .before .before .before .before .before .strings-unchecked .ensures) in
     subst (λ (o : Lookup). Leaves o l (c .before .before .look-free .result) (c .before .before .look-free .last .1 .1 .1 .0)) (best-same qubits (at strings) (f s) same (entry (s .args .table .now)) (candidate qubits (s .args .p) X) (candidate qubits (s .args .p) Z) (candidate qubits (s .args .p) Y) (length l)) (c .before .before .look-free .ensures)
 
 pub free-pair-spec : {M : Type 1} → statement M

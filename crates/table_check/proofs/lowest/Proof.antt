@@ -1,0 +1,44 @@
+-- `table_check::lowest` meets its contract: index 0 is tested first, and the others by the packed rotations, up to the ceiling. Assumes
+-- nothing.
+use borrow.Author.Needs.{needs}
+use mathlib.Core.Path.{_∙_}
+use Rattle.pauli_string.specs.Strings.{qubits}
+use Rattle.natives.specs.Arrays.{at}
+use Rattle.table.specs.Bytes.{entry}
+use Rattle.rotations.proofs.Packed.{packed-fresh}
+use Rattle.table_check.proofs.Stops.{first-stops}
+use Rattle.table_check.proofs.lowest.Statement.{statement}
+use Rattle.table_check.proofs.lowest.Tie as tie
+
+entry-unchecked-requires : tie.Need-entry-unchecked-requires
+entry-unchecked-requires c κs = search needs
+
+returns : tie.Need-returns
+returns c =
+    let a = c .before .before .before .before .args in
+    first-stops qubits (at (a .strings .now)) (entry (a .table .now)) (λ z. c .if1 .taken (c .before .entry-unchecked .ensures ∙ z))
+
+pack-unchecked-requires : tie.Need-pack-unchecked-requires
+pack-unchecked-requires c κs =
+    let s = c .before .before .before .before .before .before in
+    ((s .pre .held, s .pre .flagged), packed-fresh qubits (at (s .args .strings .now)))
+
+ceiling-requires : tie.Need-ceiling-requires
+ceiling-requires c κs = search needs
+
+scan-requires : tie.Need-scan-requires
+scan-requires c κs = search needs
+
+returns-2 : tie.Need-returns-2
+returns-2 c = search needs
+
+pub lowest-spec : {M : Type 1} → statement M
+lowest-spec =
+    tie.close
+    (tie.spec
+    entry-unchecked-requires
+    returns
+    pack-unchecked-requires
+    ceiling-requires
+    scan-requires
+    returns-2)
