@@ -3,7 +3,7 @@
 use mathlib.Core.Path.{_≡_, sym, ap, subst, _∙_}
 use mathlib.Core.Bool.{true, false}
 use mathlib.Core.Logic.{⊎-elim}
-use mathlib.Core.List.{List}
+use mathlib.Core.List.{List, []}
 use Prim.Native.Nat.{ℕ, zero, suc, _+_, _-_, _*_, _^_, _≤_, _<_}
 use native.Mathlib.Omega.{arith}
 use native.Mathlib.Decide.{ℕ-discrete}
@@ -12,6 +12,7 @@ use Rattle.bicycle_common.specs.declared.Pauli.{Pauli}
 use Rattle.bicycle_common.specs.declared.Pauli.the-variants.{I, X, Z, Y}
 use Rattle.bicycle_common.specs.declared.Refusal.the-variants.{NoEntry}
 use Rattle.bicycle_common.specs.declared.Outcome.the-variants.{Done}
+use Rattle.bicycle_common.specs.Ranges.{listFrom, listed}
 use Rattle.pauli_string.specs.Strings.{blank, hasPivot, letterAt}
 use Rattle.pauli_string.proofs.Pivot.{rotate-string, rotate-nonzero, blank-pivot, blank-le}
 use Rattle.pauli_string.proofs.Places.{set-letter-same, set-letter-lt}
@@ -26,8 +27,8 @@ use Rattle.table.specs.Plans.{Nonzero}
 use Rattle.table.specs.Answers.{given}
 use Rattle.table.proofs.Rules.{native-or-none, rule-valid}
 use Rattle.lookup.specs.Walks.{named, next, down, good, sound, best, candidate}
-use Rattle.lookup.specs.Answers.{refusing, planned, walked, exact, pivotFree}
-use Rattle.lookup.proofs.Walks.{At, good-all, sound-none, sound-some, best-of}
+use Rattle.lookup.specs.Answers.{refusing, planBy, planned, walked, exact, pivotFree}
+use Rattle.lookup.proofs.Walks.{down-none, At, good-all, sound-none, sound-some, best-of}
 use Rattle.lookup.proofs.Answers.{found-fits, walked-none, walked-good, best-walked, exact-walked, free-best}
 
 module _ (q : ℕ) (f e : ℕ → ℕ) (small : (n : ℕ) → f n < 4 ^ q) (ok : (p : ℕ) → p < 4 ^ q → Rule q f e p) where
@@ -82,7 +83,7 @@ module _ (q : ℕ) (f e : ℕ → ℕ) (small : (n : ℕ) → f n < 4 ^ q) (ok :
 -- ---- candidates
 
 -- with a letter on the pivot no string is the identity
-candidate-nonzero : (q p : ℕ) (l : Pauli) → 0 < q → p < 4 ^ q → (l ≡ I → ⊥) → Nonzero q (candidate q p l)
+pub candidate-nonzero : (q p : ℕ) (l : Pauli) → 0 < q → p < 4 ^ q → (l ≡ I → ⊥) → Nonzero q (candidate q p l)
 candidate-nonzero q p l h below some = record {
   below = subst (λ (n : ℕ). candidate q p l < n) (sym (four-pow q)) (set-letter-lt q p 0 l h (subst (λ (n : ℕ). p < n) (four-pow q) below));
   some = λ z. some (sym (set-letter-same q p 0 l h) ∙ ap (λ (x : ℕ). letterAt q x 0) z ∙ identity-letter);
@@ -107,6 +108,13 @@ candidates q p h below = record {
 }
 
 -- ---- the lookups
+
+-- the plan of a string of depth 0 is its native alone
+pub planned-native : (q : ℕ) (f e : ℕ → ℕ) (p : ℕ) → depth (e p) ≡ 0 → planned q f e p ≡ planBy p (named (e p)) 0 p []
+unfolding listFrom
+planned-native q f e p z =
+    ap (λ (d : ℕ). planBy (down q f e p d) (named (e (down q f e p d))) d p (listed (λ (i : ℕ). named (e (down q f e p (d - 1 - i)))) d)) z
+    ∙ ap (λ (x : ℕ). planBy x (named (e x)) 0 p []) (down-none q f e p)
 
 module _ (q s : ℕ) (t mx my : List ℕ) (p room : ℕ) (g : given q s t mx my ≡ Done) where
   abbrev strings : ℕ → ℕ

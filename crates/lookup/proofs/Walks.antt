@@ -156,6 +156,10 @@ module _ (e : ℕ → ℕ) (a b : ℕ) where
     unfolding better
     better-equal k l = rw (ne-eqb (e a) 0 h, ne-eqb (e b) 0 k, le-ltb (depth (e b)) (depth (e a)) l)
 
+  -- nothing has fewer rotations than a native
+  pub better-native : (e a ≡ 0 → ⊥) → depth (e a) ≡ 0 → better e a b ≡ a
+  better-native h z = elim (ℕ-discrete (e b) 0) [ yes w ↦ better-first h w | no k ↦ better-equal h k (omega arith) ]
+
   chosen-of : (P : ℕ → Type 0) (x y z : Bool) → P a → P b → P (cond x b (cond y a (cond z b a)))
   chosen-of P true y z ha hb = hb
   chosen-of P false true z ha hb = ha
