@@ -136,7 +136,7 @@ module _ (q s : ℕ) (t mx my : List ℕ) (p room : ℕ) (g : given q s t mx my 
       abbrev winner : ℕ
       winner = best (entry t) (candidate q p X) (candidate q p Z) (candidate q p Y)
 
-      free-walked : pivotFree q s t mx my p room ≡ walked q strings (entry t) winner room
+      pub free-walked : pivotFree q s t mx my p room ≡ walked q strings (entry t) winner room
       free-walked =
           let c = candidates q p positive below in
           free-best q s t mx my p room g (is-string q p below) free

@@ -3,4 +3,6 @@ pub mod Edges
 pub mod Strings
 pub mod Natives
 pub mod Tables
+pub mod Checks
+pub mod Demand3
 pub mod Lookups

@@ -1,153 +1,76 @@
--- Demand 3, for the table that a build leaves and for every table that the check accepts, and what else the lookups promise. Each is a case of
--- a law in `table`, `builder`, `table_check` or `lookup`, over any number of qubits. Assumes nothing.
+-- What else the lookups promise: a true plan on any table, each refusal exactly where document 01 says, no refusal 8 on a table that was
+-- built or accepted, and there string 1 for the pivot-free lookup of 0. Assumes nothing.
 use mathlib.Core.Path.{_≡_, refl, sym, ap, subst, _∙_}
-use mathlib.Core.Bool.{Bool, true, false, cond, _&&_, and-eq-true-iff}
-use mathlib.Core.Logic.{_⊎_, inl, inr, ⊎-elim}
-use mathlib.Core.List.{List, [], _∷_}
-use Prim.Native.Nat.{ℕ, _+_, _*_, _^_, _≤_, _<_}
+use mathlib.Core.Bool.{Bool, true, false, _&&_, cond, and-false}
+use mathlib.Core.List.{List, []}
+use Prim.Native.Nat.{ℕ, _*_, _^_, _≤_, _<_}
 use native.Mathlib.Omega.{arith}
-use lib.Dec.{eqb, lit<}
+use native.Mathlib.Decide.{ℕ-discrete, decLt}
+use lib.Dec.{lit<}
 use lib.ListN.{length}
 use lib.Seq.{sets}
 use Rattle.bicycle_common.specs.declared.Pauli.{Pauli}
 use Rattle.bicycle_common.specs.declared.Pauli.the-variants.{I, X, Z, Y}
+use Rattle.bicycle_common.specs.declared.Refusal.the-variants.{TableLength, Matrix, StringRange, Identity, PivotSet, NoEntry, BadEntry, Room}
 use Rattle.bicycle_common.specs.declared.Outcome.the-variants.{Done}
-use Rattle.bicycle_common.proofs.Ranges.{length-from}
+use Rattle.bicycle_common.specs.Refusals.{Told, refused}
 use Rattle.pauli_string.specs.Strings.{qubits, bit, letterAt, setBit, setLetter, hasPivot}
+use Rattle.pauli_string.proofs.Range.{is-string, no-string}
 use Rattle.measurement.specs.Matrices.{side, ofBytes, isBytes}
-use Rattle.measurement.specs.Measures.{nativeString}
-use Rattle.measurement.proofs.Strings.{native-lt, native-one}
+use Rattle.measurement.proofs.Strings.{native-one}
 use Rattle.natives.specs.Kept.{keptFor}
 use Rattle.shortest.specs.Graphs.{Has}
 use Rattle.table.specs.Bytes.{entry}
 use Rattle.table.specs.Entries.{depth, Names}
-use Rattle.table.specs.Rules.{Rule}
-use Rattle.table.specs.Plans.{Nonzero, Gives}
+use Rattle.table.specs.Plans.{Nonzero}
 use Rattle.table.specs.Answers.{isTable, given}
 use Rattle.table.proofs.Rules.{kept-for}
 use Rattle.table.proofs.Answers.{is-given}
-use Rattle.table.proofs.Plans.{sequence-reaches}
-use Rattle.builder.specs.declared.Built.{Built}
-use Rattle.builder.specs.declared.BuildAnswer.the-variants.{Is as WasBuilt}
-use Rattle.builder.specs.Model.{built}
-use Rattle.builder.specs.States.{twelve}
-use Rattle.builder.specs.Answers.{After, build}
-use Rattle.builder.proofs.Meets as Meets
-use Rattle.builder.proofs.Answers.{answered-built}
-use Rattle.table_check.specs.declared.CheckAnswer.the-variants.{Accepted}
-use Rattle.table_check.specs.Answers.{Checked}
 use Rattle.lookup.specs.declared.LookupAnswer.{LookupAnswer}
 use Rattle.lookup.specs.declared.LookupAnswer.the-variants.{Is}
 use Rattle.lookup.specs.declared.MeasurementImpl.{MeasurementImpl}
-use Rattle.lookup.specs.Walks.{named, bottom, rotationAt, rotations, better, best, candidate}
-use Rattle.lookup.specs.Answers.{twoBytes, Lookup, Leaves, implBy, planBy, planned, exact, pivotFree}
-use Rattle.lookup.specs.Truth.{Implements, Truly}
-use Rattle.lookup.proofs.Walks.{better-native, best-of, best-least-first, best-least-second, best-least-third}
+use Rattle.lookup.specs.Walks.{named, rotations, better, best, candidate, good, sound}
+use Rattle.lookup.specs.Answers.{toldLookup, twoBytes, Lookup, Leaves, planBy, planned, found, walked, exact, pivotFree, free, refusing}
+use Rattle.lookup.specs.Truth.{Implements, AnswersTruly, Truly}
+use Rattle.lookup.proofs.Walks.{better-native, sound-none, sound-some, better-second}
+use Rattle.lookup.proofs.Answers.{found-short, found-fits, walked-none, walked-good, exact-range, exact-identity, exact-walked, free-range, free-pivot, exact-no, free-no, free-best, walked-bad, best-walked}
 use Rattle.lookup.proofs.Truth.{exact-true, pivot-free-true}
-use Rattle.lookup.proofs.Ruled.{candidate-nonzero, candidates, planned-native, exact-planned, free-planned}
+use Rattle.lookup.proofs.Ruled.{rule-good, planned-native, free-walked, free-planned}
+use Rattle.promises.specs.Checks.{stringOf, BuiltOrAccepted, Ruled, small, ruled-table}
+use Rattle.promises.specs.Demand3.{chosen, chosen-nonzero}
 
--- ---- of which tables
+-- ---- on any table
 
--- t is what a build for the pair leaves
-pub record BuiltFor (mx my t : List ℕ) : Type 0 where
-  pub table : List ℕ
-  pub queue : List ℕ
-  pub told : Built
-  pub answers : build qubits side table queue mx my .answer ≡ WasBuilt told
-  pub leaves : build qubits side table queue mx my .table ≡ t
-
--- t is accepted by the table check for the pair
-abbrev pub AcceptedFor : List ℕ → List ℕ → List ℕ → Type 0
-AcceptedFor mx my t = Checked qubits side t mx my Accepted
-
-abbrev pub BuiltOrAccepted : List ℕ → List ℕ → List ℕ → Type 0
-BuiltOrAccepted mx my t = BuiltFor mx my t ⊎ AcceptedFor mx my t
-
--- ---- demand 3
-
--- the string of native n of the pair
-abbrev pub stringOf : List ℕ → List ℕ → ℕ → ℕ
-stringOf mx my = nativeString side (ofBytes side mx) (ofBytes side my)
-
--- The answer r, and the buffer that was `before` and is `after` now, hold a shortest plan for p: a kept native and kept natives with pivot
--- support which, pivots blanked, applied in order to the base, give p; and no shorter sequence of natives with pivot support, kept or not,
--- gives p from any native.
-pub record ShortestPlan (mx my : List ℕ) (p : ℕ) (before : List ℕ) (r : LookupAnswer) (after : List ℕ) : Type 0 where
-  pub plan : MeasurementImpl
+-- m, with natives in front of the buffer, is a true plan for p: kept natives which, pivots blanked, applied in order to the base, give p
+pub record TruePlan (mx my : List ℕ) (p : ℕ) (before : List ℕ) (m : MeasurementImpl) (after : List ℕ) : Type 0 where
   pub rotations : List ℕ
-  pub answer : r ≡ Is plan
+  pub implements : Implements qubits (stringOf mx my) m rotations p
   pub buffer : after ≡ sets before 0 (twoBytes rotations)
-  pub implements : Implements qubits (stringOf mx my) plan rotations p
-  pub no-shorter : (b : ℕ) (ns : List ℕ) → Gives qubits (stringOf mx my) b ns p → length rotations ≤ length ns
 
--- what demand 3 asks of a table and a nonzero string
-pub record Demand3 (mx my t : List ℕ) (p : ℕ) : Type 0 where
-  -- with an entry, and room in the buffer: whatever the exact lookup answers and leaves is a shortest plan
-  pub entry-is-planned : Has (entry t) p → (before : List ℕ) → 2 * depth (entry t p) ≤ length before → (r : LookupAnswer) (after : List ℕ)
-      → Leaves (exact qubits side t mx my p (length before)) before r after → ShortestPlan mx my p before r after
-  -- without an entry: no sequence gives it
-  pub without-entry : entry t p ≡ 0 → (b : ℕ) (ns : List ℕ) → Gives qubits (stringOf mx my) b ns p → ⊥
+module _ (mx my t : List ℕ) (p : ℕ) (before : List ℕ) (m : MeasurementImpl) (after : List ℕ) where
+  true-plan : (x : ℕ) (o : Lookup) → Truly qubits (stringOf mx my) x o → Leaves o before (Is m) after → TruePlan mx my x before m after
+  true-plan x o h w = record {
+    rotations = o .written;
+    implements = subst (AnswersTruly qubits (stringOf mx my) x (o .written)) (sym (w .answer)) h;
+    buffer = w .buffer;
+  }
 
--- ---- the same without the pivot
+  pub exact-is-true : Leaves (exact qubits side t mx my p (length before)) before (Is m) after → TruePlan mx my p before m after
+  exact-is-true = true-plan p (exact qubits side t mx my p (length before)) (exact-true qubits side t mx my p (length before))
 
--- the candidate with the fewest rotations, the first of X, Z, Y where several have them
-abbrev pub chosen : List ℕ → ℕ → ℕ
-chosen t p = best (entry t) (candidate qubits p X) (candidate qubits p Z) (candidate qubits p Y)
+  pub pivot-free-is-true : Leaves (pivotFree qubits side t mx my p (length before)) before (Is m) after → TruePlan mx my (chosen t p) before m after
+  pivot-free-is-true = true-plan (chosen t p) (pivotFree qubits side t mx my p (length before)) (pivot-free-true qubits side t mx my p (length before))
 
--- a shortest plan for the chosen candidate, and no sequence for p with any letter on the pivot is shorter
-pub record BestPlan (mx my t : List ℕ) (p : ℕ) (before : List ℕ) (r : LookupAnswer) (after : List ℕ) : Type 0 where
-  pub shortest : ShortestPlan mx my (chosen t p) before r after
-  pub no-letter-shorter : (l : Pauli) → (l ≡ I → ⊥) → (b : ℕ) (ns : List ℕ) → Gives qubits (stringOf mx my) b ns (candidate qubits p l)
-      → length (shortest .rotations) ≤ length ns
+-- a lookup's contract permits one answer and one buffer
+pub lookup-one : (o : Lookup) (before : List ℕ) (r r′ : LookupAnswer) (after after′ : List ℕ) → Leaves o before r after → Leaves o before r′ after′
+    → (r ≡ r′) × (after ≡ after′)
+lookup-one o before r r′ after after′ a b = (a .answer ∙ sym (b .answer), a .buffer ∙ sym (b .buffer))
 
-pub record PivotFree3 (mx my t : List ℕ) (p : ℕ) : Type 0 where
-  -- if the chosen candidate has an entry, and the buffer has room
-  pub entry-is-planned : Has (entry t) (chosen t p) → (before : List ℕ) → 2 * depth (entry t (chosen t p)) ≤ length before → (r : LookupAnswer)
-      (after : List ℕ) → Leaves (pivotFree qubits side t mx my p (length before)) before r after → BestPlan mx my t p before r after
-  -- if it has none, no sequence gives p with any letter on the pivot
-  pub without-entry : entry t (chosen t p) ≡ 0 → (l : Pauli) → (l ≡ I → ⊥) → (b : ℕ) (ns : List ℕ) → Gives qubits (stringOf mx my) b ns (candidate qubits p l) → ⊥
+-- ---- on a table that was built or accepted
 
--- ---- what these tables have in common
-
--- a table of the pair, of which every index meets its rule
-record Ruled (mx my t : List ℕ) : Type 0 where
-  is-given : given qubits side t mx my ≡ Done
-  ruled : (p : ℕ) → p < 4 ^ qubits → Rule qubits (stringOf mx my) (entry t) p
-
-small : (mx my : List ℕ) (n : ℕ) → stringOf mx my n < 4 ^ qubits
-small mx my = native-lt side (lit< tt) (ofBytes side mx) (ofBytes side my)
-
-built-ruled : (mx my t : List ℕ) → BuiltFor mx my t → Ruled mx my t
-built-ruled mx my t b =
-    let h = answered-built qubits side (b .table) (b .queue) mx my (b .told) (b .answers) in
-    let f = stringOf mx my in
-    let z : built qubits f .table ≡ t = sym (ap (λ (o : After). o .table) (h .2)) ∙ b .leaves in
-    record {
-      is-given = is-given qubits side t mx my (ap (λ (l : List ℕ). length l) (sym z) ∙ Meets.built-good qubits twelve f (small mx my) .table-long) (h .0) (h .1);
-      ruled = subst (λ (l : List ℕ). (p : ℕ) → p < 4 ^ qubits → Rule qubits f (entry l) p) z (Meets.built-rule qubits twelve f (small mx my));
-    }
-
-ruled-table : (mx my t : List ℕ) → BuiltOrAccepted mx my t → Ruled mx my t
-ruled-table mx my t b = ⊎-elim (built-ruled mx my t) (λ (a : AcceptedFor mx my t). record { is-given = a .done; ruled = a .every }) b
-
--- a lookup that answers the plan of the walk from p, truly, answers a shortest plan where no sequence is shorter than the depth of p
-abbrev planned-shortest : (mx my t : List ℕ) (p : ℕ) (before : List ℕ) (r : LookupAnswer) (after : List ℕ) (o : Lookup) → Leaves o before r after
-    → o ≡ planned qubits (stringOf mx my) (entry t) p → Truly qubits (stringOf mx my) p o
-    → ((b : ℕ) (ns : List ℕ) → Gives qubits (stringOf mx my) b ns p → depth (entry t p) ≤ length ns) → ShortestPlan mx my p before r after
-planned-shortest mx my t p before r after o w z true-plan least =
-    let f = stringOf mx my in
-    let e = entry t in
-    let m : MeasurementImpl = implBy (bottom qubits f e p) (named (e (bottom qubits f e p))) (depth (e p)) p in
-    record {
-      plan = m;
-      rotations = rotations qubits f e p;
-      answer = w .answer ∙ ap (λ (x : Lookup). x .answer) z;
-      buffer = w .buffer ∙ ap (λ (x : Lookup). sets before 0 (twoBytes (x .written))) z;
-      implements = subst (Truly qubits f p) z true-plan;
-      no-shorter = λ b ns g. omega (arith, least b ns g, length-from (rotationAt qubits f e p) 0 (depth (e p)));
-    }
-
--- ---- the theorems
+-- two equal lookups tell the same number
+numbered : {o w : Lookup} (n : ℕ) → o ≡ w → (toldLookup (w .answer) .number ≡ n → ⊥) → toldLookup (o .answer) .number ≡ n → ⊥
+numbered n z other e = other (sym (ap (λ (x : Lookup). toldLookup (x .answer) .number) z) ∙ e)
 
 module _ (mx my t : List ℕ) (ok : BuiltOrAccepted mx my t) where
   abbrev f : ℕ → ℕ
@@ -155,60 +78,6 @@ module _ (mx my t : List ℕ) (ok : BuiltOrAccepted mx my t) where
 
   ready : Ruled mx my t
   ready = ruled-table mx my t ok
-
-  reaches : (b : ℕ) (ns : List ℕ) (p : ℕ) → Gives qubits f b ns p → (p ≡ 0 → ⊥) → Has (entry t) p × (depth (entry t p) ≤ length ns)
-  reaches = sequence-reaches qubits f (small mx my) (entry t) (ready .ruled)
-
-  pub demand-3 : (p : ℕ) → Nonzero qubits p → Demand3 mx my t p
-  demand-3 p i = record {
-    entry-is-planned = λ h before room r after w. shortest h before room r after w;
-    without-entry = λ z b ns g. reaches b ns p g (i .some) .0 z;
-  }
-    where
-      shortest : Has (entry t) p → (before : List ℕ) → 2 * depth (entry t p) ≤ length before → (r : LookupAnswer) (after : List ℕ)
-          → Leaves (exact qubits side t mx my p (length before)) before r after → ShortestPlan mx my p before r after
-      shortest h before room r after w =
-          planned-shortest mx my t p before r after (exact qubits side t mx my p (length before)) w
-          (exact-planned qubits side t mx my p (length before) (ready .is-given) (small mx my) (ready .ruled) i h room)
-          (exact-true qubits side t mx my p (length before))
-          (λ b ns g. reaches b ns p g (i .some) .1)
-
-  module _ (p : ℕ) (below : p < 4 ^ qubits) (free : hasPivot qubits p ≡ false) where
-    nonzero : (l : Pauli) → (l ≡ I → ⊥) → Nonzero qubits (candidate qubits p l)
-    nonzero l i = candidate-nonzero qubits p l (lit< tt) below i
-
-    -- the chosen candidate has an entry if another has, and no more rotations
-    no-more : (l : Pauli) → (l ≡ I → ⊥) → Has (entry t) (candidate qubits p l)
-        → Has (entry t) (chosen t p) × (depth (entry t (chosen t p)) ≤ depth (entry t (candidate qubits p l)))
-    no-more I i h = absurd (i refl)
-    no-more X i h = best-least-first (entry t) (candidate qubits p X) (candidate qubits p Z) (candidate qubits p Y) h
-    no-more Z i h = best-least-second (entry t) (candidate qubits p X) (candidate qubits p Z) (candidate qubits p Y) h
-    no-more Y i h = best-least-third (entry t) (candidate qubits p X) (candidate qubits p Z) (candidate qubits p Y) h
-
-    chosen-nonzero : Nonzero qubits (chosen t p)
-    chosen-nonzero =
-        let c = candidates qubits p (lit< tt) below in
-        best-of (entry t) (candidate qubits p X) (candidate qubits p Z) (candidate qubits p Y) (Nonzero qubits) (c .with-x) (c .with-z) (c .with-y)
-
-    best-plan : Has (entry t) (chosen t p) → (before : List ℕ) → 2 * depth (entry t (chosen t p)) ≤ length before → (r : LookupAnswer) (after : List ℕ)
-        → Leaves (pivotFree qubits side t mx my p (length before)) before r after → BestPlan mx my t p before r after
-    best-plan h before room r after w = record {
-      shortest = planned-shortest mx my t (chosen t p) before r after (pivotFree qubits side t mx my p (length before)) w
-          (free-planned qubits side t mx my p (length before) (ready .is-given) (small mx my) (ready .ruled) (lit< tt) below free h room)
-          (pivot-free-true qubits side t mx my p (length before))
-          (λ b ns g. reaches b ns (chosen t p) g (chosen-nonzero .some) .1);
-      no-letter-shorter = λ l i b ns g.
-          let k = reaches b ns (candidate qubits p l) g (nonzero l i .some) in
-          omega (arith, length-from (rotationAt qubits f (entry t) (chosen t p)) 0 (depth (entry t (chosen t p))), no-more l i (k .0) .1, k .1);
-    }
-
-    pub pivot-free-demand-3 : PivotFree3 mx my t p
-    pivot-free-demand-3 = record {
-      entry-is-planned = best-plan;
-      without-entry = λ z l i b ns g. no-more l i (reaches b ns (candidate qubits p l) g (nonzero l i .some) .0) .0 z;
-    }
-
-  -- ---- the pivot-free lookup of 0
 
   -- 1 has the number kept for it, at depth 0
   one : (depth (entry t 1) ≡ 0) × Names (entry t 1) (keptFor f 1)
@@ -236,3 +105,121 @@ module _ (mx my t : List ℕ) (ok : BuiltOrAccepted mx my t) where
       ∙ ap (planned qubits f e) chosen-one
       ∙ planned-native qubits f e 1 (one .0)
       ∙ ap (λ (k : ℕ). planBy 1 k 0 1 []) n
+
+  walked-never-8 : (p room : ℕ) → Nonzero qubits p → toldLookup (walked qubits f (entry t) p room .answer) .number ≡ 8 → ⊥
+  walked-never-8 p room i = elim (ℕ-discrete (entry t p) 0) [
+    | yes z ↦ numbered 8 (walked-none qubits f (entry t) p room z) (λ n. omega arith)
+    | no h ↦ long (walked-good qubits f (entry t) p room h (rule-good qubits f (entry t) (small mx my) (ready .ruled) p i h))
+  ]
+    where
+      long : walked qubits f (entry t) p room ≡ found qubits f (entry t) p room → toldLookup (walked qubits f (entry t) p room .answer) .number ≡ 8 → ⊥
+      long z = elim (decLt room (2 * depth (entry t p))) [
+        | yes l ↦ numbered 8 (z ∙ found-short qubits f (entry t) p room l) (λ n. omega arith)
+        | no g ↦ numbered 8 (z ∙ found-fits qubits f (entry t) p room (omega arith)) (λ n. omega arith)
+      ]
+
+  pub exact-never-8 : (p room : ℕ) → toldLookup (exact qubits side t mx my p room .answer) .number ≡ 8 → ⊥
+  exact-never-8 p room = elim (decLt p (4 ^ qubits)) [
+    | no g ↦ numbered 8 (exact-range qubits side t mx my p room (ready .is-given) (no-string qubits p (omega arith))) (λ n. omega arith)
+    | yes below ↦ elim (ℕ-discrete p 0) [
+      | yes z ↦ numbered 8 (exact-identity qubits side t mx my p room (ready .is-given) (is-string qubits p below) z) (λ n. omega arith)
+      | no some ↦ numbered 8 (exact-walked qubits side t mx my p room (ready .is-given) (is-string qubits p below) some) (walked-never-8 p room (record { below = below; some = some }))
+    ]
+  ]
+
+  pub pivot-free-never-8 : (p room : ℕ) → toldLookup (pivotFree qubits side t mx my p room .answer) .number ≡ 8 → ⊥
+  pivot-free-never-8 p room = elim (decLt p (4 ^ qubits)) [
+    | no g ↦ numbered 8 (free-range qubits side t mx my p room (ready .is-given) (no-string qubits p (omega arith))) (λ n. omega arith)
+    | yes below ↦ by-pivot below (hasPivot qubits p) refl
+  ]
+    where
+      by-pivot : p < 4 ^ qubits → (b : Bool) → hasPivot qubits p ≡ b → toldLookup (pivotFree qubits side t mx my p room .answer) .number ≡ 8 → ⊥
+      by-pivot below true z = numbered 8 (free-pivot qubits side t mx my p room (ready .is-given) (is-string qubits p below) z) (λ n. omega arith)
+      by-pivot below false z =
+          numbered 8 (free-walked qubits side t mx my p room (ready .is-given) (small mx my) (ready .ruled) (lit< tt) below z)
+          (walked-never-8 (chosen t p) room (chosen-nonzero mx my t ok p below z))
+
+-- ---- refusals
+
+module _ (mx my t : List ℕ) (p room : ℕ) where
+  abbrev strings : ℕ → ℕ
+  strings = stringOf mx my
+
+  -- what a caller is told by the exact lookup, and by the pivot-free one
+  abbrev exactly : Told
+  exactly = toldLookup (exact qubits side t mx my p room .answer)
+
+  abbrev freely : Told
+  freely = toldLookup (pivotFree qubits side t mx my p room .answer)
+
+  same-told : {o w : Lookup} → o ≡ w → toldLookup (o .answer) ≡ toldLookup (w .answer)
+  same-told z = ap (λ (x : Lookup). toldLookup (x .answer)) z
+
+  -- both: 1, then 3, then 4
+  pub no-table-1 : isTable qubits t ≡ false → (exactly ≡ refused 4 TableLength) × (freely ≡ refused 4 TableLength)
+  no-table-1 e = (same-told (exact-no qubits side t mx my p room TableLength (rw e)), same-told (free-no qubits side t mx my p room TableLength (rw e)))
+
+  pub no-matrix-3 : isTable qubits t ≡ true → (isBytes side mx && isBytes side my) ≡ false → (exactly ≡ refused 4 Matrix) × (freely ≡ refused 4 Matrix)
+  no-matrix-3 e x = (same-told (exact-no qubits side t mx my p room Matrix (rw (e, x))), same-told (free-no qubits side t mx my p room Matrix (rw (e, x))))
+
+  module _ (g : given qubits side t mx my ≡ Done) where
+    pub no-string-4 : 4 ^ qubits ≤ p → (exactly ≡ refused 4 StringRange) × (freely ≡ refused 4 StringRange)
+    no-string-4 h =
+        (same-told (exact-range qubits side t mx my p room g (no-string qubits p h)), same-told (free-range qubits side t mx my p room g (no-string qubits p h)))
+
+    -- the exact lookup: 5 for the identity, 7 for value 0, 8 for a bad walk, 9 with the length needed
+    pub identity-5 : p ≡ 0 → exactly ≡ refused 4 Identity
+    identity-5 z = same-told (exact-identity qubits side t mx my p room g (is-string qubits p (subst (λ (x : ℕ). x < 4 ^ qubits) (sym z) (lit< tt))) z)
+
+    module _ (i : Nonzero qubits p) where
+      to-walk : exact qubits side t mx my p room ≡ walked qubits strings (entry t) p room
+      to-walk = exact-walked qubits side t mx my p room g (is-string qubits p (i .below)) (i .some)
+
+      pub no-entry-7 : entry t p ≡ 0 → exactly ≡ refused 4 NoEntry
+      no-entry-7 z = same-told (to-walk ∙ walked-none qubits strings (entry t) p room z)
+
+      module _ (h : Has (entry t) p) where
+        pub bad-walk-8 : good qubits strings (entry t) p ≡ false → exactly ≡ refused 4 BadEntry
+        bad-walk-8 b = same-told (to-walk ∙ walked-bad qubits strings (entry t) p room h b)
+
+        pub no-room-9 : good qubits strings (entry t) p ≡ true → room < 2 * depth (entry t p) → exactly ≡ refused 4 (Room (2 * depth (entry t p)))
+        no-room-9 w l = same-told (to-walk ∙ walked-good qubits strings (entry t) p room h w ∙ found-short qubits strings (entry t) p room l)
+
+        pub else-planned : good qubits strings (entry t) p ≡ true → 2 * depth (entry t p) ≤ room → exact qubits side t mx my p room ≡ planned qubits strings (entry t) p
+        else-planned w l = to-walk ∙ walked-good qubits strings (entry t) p room h w ∙ found-fits qubits strings (entry t) p room l
+
+    -- the pivot-free lookup: 6 for a letter on the pivot, 7 where no candidate has an entry, 8 where one with an entry has a bad walk
+    module _ (below : p < 4 ^ qubits) where
+      pub pivot-set-6 : hasPivot qubits p ≡ true → freely ≡ refused 4 PivotSet
+      pivot-set-6 b = same-told (free-pivot qubits side t mx my p room g (is-string qubits p below) b)
+
+      module _ (b : hasPivot qubits p ≡ false) where
+        to-best : pivotFree qubits side t mx my p room ≡ free qubits strings (entry t) p room
+        to-best = free-best qubits side t mx my p room g (is-string qubits p below) b
+
+        pub no-candidate-7 : ((l : Pauli) → (l ≡ I → ⊥) → entry t (candidate qubits p l) ≡ 0) → freely ≡ refused 4 NoEntry
+        no-candidate-7 h =
+            let e = entry t in
+            let x : e (candidate qubits p X) ≡ 0 = h X (λ z. let n : _≡_ {A = ℕ} 0 1 = cc in omega arith) in
+            let z : e (candidate qubits p Z) ≡ 0 = h Z (λ z. let n : _≡_ {A = ℕ} 0 1 = cc in omega arith) in
+            let y : e (candidate qubits p Y) ≡ 0 = h Y (λ z. let n : _≡_ {A = ℕ} 0 1 = cc in omega arith) in
+            let last : chosen t p ≡ candidate qubits p Y =
+            ap (λ (a : ℕ). better e a (candidate qubits p Y)) (better-second e (candidate qubits p X) (candidate qubits p Z) x)
+            ∙ better-second e (candidate qubits p Z) (candidate qubits p Y) z in
+            same-told (to-best
+            ∙ best-walked qubits strings e (candidate qubits p X) (candidate qubits p Z) (candidate qubits p Y) room
+            (sound-none qubits strings e (candidate qubits p X) x) (sound-none qubits strings e (candidate qubits p Z) z) (sound-none qubits strings e (candidate qubits p Y) y)
+            ∙ walked-none qubits strings e (chosen t p) room (ap e last ∙ y))
+
+        pub bad-candidate-8 : (l : Pauli) → (l ≡ I → ⊥) → Has (entry t) (candidate qubits p l) → good qubits strings (entry t) (candidate qubits p l) ≡ false
+            → freely ≡ refused 4 BadEntry
+        bad-candidate-8 l i h w = same-told (to-best ∙ ap (λ (a : Bool). cond a (walked qubits strings (entry t) (chosen t p) room) (refusing BadEntry)) (by-letter l i (sound-some qubits strings (entry t) (candidate qubits p l) h ∙ w)))
+          where
+            s : Pauli → Bool
+            s l = sound qubits strings (entry t) (candidate qubits p l)
+
+            by-letter : (l : Pauli) → (l ≡ I → ⊥) → s l ≡ false → (s X && s Z && s Y) ≡ false
+            by-letter I i z = absurd (i refl)
+            by-letter X i z = rw z
+            by-letter Z i z = ap (λ (a : Bool). s X && a && s Y) z ∙ ap (λ (a : Bool). a && s Y) (and-false (s X))
+            by-letter Y i z = ap (λ (a : Bool). s X && s Z && a) z ∙ and-false (s X && s Z)

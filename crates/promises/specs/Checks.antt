@@ -1,0 +1,97 @@
+-- Tables that were built for a pair, and tables that the check accepts for it: of both every index meets its rule. Assumes nothing.
+use mathlib.Core.Path.{_≡_, refl, sym, ap, subst, _∙_}
+use mathlib.Core.Bool.{true}
+use mathlib.Core.Logic.{_⊎_, ⊎-elim}
+use mathlib.Core.List.{List}
+use Prim.Native.Nat.{ℕ, _^_, _<_}
+use lib.Dec.{lit<}
+use lib.ListN.{length}
+use Rattle.bicycle_common.specs.declared.Outcome.the-variants.{Done}
+use Rattle.pauli_string.specs.Strings.{qubits}
+use Rattle.measurement.specs.Matrices.{side, ofBytes, isBytes}
+use Rattle.measurement.specs.Measures.{nativeString}
+use Rattle.measurement.proofs.Strings.{native-lt}
+use Rattle.table.specs.Bytes.{entry}
+use Rattle.table.specs.Entries.{depth}
+use Rattle.table.specs.Rules.{Rule}
+use Rattle.table.specs.Answers.{isTable, entries, deepest, given}
+use Rattle.table.proofs.Answers.{is-given}
+use Rattle.builder.specs.declared.Built.{Built}
+use Rattle.builder.specs.declared.BuildAnswer.the-variants.{Is as WasBuilt}
+use Rattle.builder.specs.Model.{built}
+use Rattle.builder.specs.States.{twelve}
+use Rattle.builder.specs.Answers.{After, done, build}
+use Rattle.builder.proofs.Meets as Meets
+use Rattle.builder.proofs.Answers.{all-right, answered-built}
+use Rattle.table_check.specs.declared.CheckAnswer.{CheckAnswer}
+use Rattle.table_check.specs.declared.CheckAnswer.the-variants.{Accepted}
+use Rattle.table_check.specs.Answers.{Checked}
+use Rattle.table_check.proofs.Answers.{checked-one}
+
+-- the string of native n of the pair
+abbrev pub stringOf : List ℕ → List ℕ → ℕ → ℕ
+stringOf mx my = nativeString side (ofBytes side mx) (ofBytes side my)
+
+-- t is what a build for the pair leaves
+pub record BuiltFor (mx my t : List ℕ) : Type 0 where
+  pub table : List ℕ
+  pub queue : List ℕ
+  pub told : Built
+  pub answers : build qubits side table queue mx my .answer ≡ WasBuilt told
+  pub leaves : build qubits side table queue mx my .table ≡ t
+
+-- t is accepted by the table check for the pair
+abbrev pub AcceptedFor : List ℕ → List ℕ → List ℕ → Type 0
+AcceptedFor mx my t = Checked qubits side t mx my Accepted
+
+abbrev pub BuiltOrAccepted : List ℕ → List ℕ → List ℕ → Type 0
+BuiltOrAccepted mx my t = BuiltFor mx my t ⊎ AcceptedFor mx my t
+
+-- ---- what these tables have in common
+
+-- a table of the pair, of which every index meets its rule
+pub record Ruled (mx my t : List ℕ) : Type 0 where
+  pub is-given : given qubits side t mx my ≡ Done
+  pub ruled : (p : ℕ) → p < 4 ^ qubits → Rule qubits (stringOf mx my) (entry t) p
+
+pub small : (mx my : List ℕ) (n : ℕ) → stringOf mx my n < 4 ^ qubits
+small mx my = native-lt side (lit< tt) (ofBytes side mx) (ofBytes side my)
+
+built-ruled : (mx my t : List ℕ) → BuiltFor mx my t → Ruled mx my t
+built-ruled mx my t b =
+    let h = answered-built qubits side (b .table) (b .queue) mx my (b .told) (b .answers) in
+    let f = stringOf mx my in
+    let z : built qubits f .table ≡ t = sym (ap (λ (o : After). o .table) (h .2)) ∙ b .leaves in
+    record {
+      is-given = is-given qubits side t mx my (ap (λ (l : List ℕ). length l) (sym z) ∙ Meets.built-good qubits twelve f (small mx my) .table-long) (h .0) (h .1);
+      ruled = subst (λ (l : List ℕ). (p : ℕ) → p < 4 ^ qubits → Rule qubits f (entry l) p) z (Meets.built-rule qubits twelve f (small mx my));
+    }
+
+pub ruled-table : (mx my t : List ℕ) → BuiltOrAccepted mx my t → Ruled mx my t
+ruled-table mx my t b = ⊎-elim (built-ruled mx my t) (λ (a : AcceptedFor mx my t). record { is-given = a .done; ruled = a .every }) b
+
+-- ---- one is the other
+
+-- every pair of 0/1 matrices has a built table, for any buffers of the right length
+pub every-pair-is-built : (t u mx my : List ℕ) → isTable qubits t ≡ true → isTable qubits u ≡ true → isBytes side mx ≡ true → isBytes side my ≡ true
+    → BuiltFor mx my (build qubits side t u mx my .table)
+every-pair-is-built t u mx my a b x y =
+    let z = sym (all-right qubits side t u mx my a b x y) in
+    let d = done qubits (built qubits (stringOf mx my)) in
+    record {
+      table = t;
+      queue = u;
+      told = record { entries = entries qubits (d .table); depth = deepest qubits (d .table) };
+      answers = ap (λ (o : After). o .answer) z;
+      leaves = refl;
+    }
+
+-- and the check accepts it
+pub built-is-accepted : (mx my t : List ℕ) → BuiltFor mx my t → (a : CheckAnswer) → Checked qubits side t mx my a → a ≡ Accepted
+built-is-accepted mx my t b a c =
+    let r = built-ruled mx my t b in
+    checked-one qubits side t mx my a Accepted c (record { done = r .is-given; every = r .ruled })
+
+-- the check's contract permits one answer
+pub check-one : (t mx my : List ℕ) (a b : CheckAnswer) → Checked qubits side t mx my a → Checked qubits side t mx my b → a ≡ b
+check-one = checked-one qubits side
