@@ -31,12 +31,14 @@ conj-string q p r hp hr =
     subst (λ (n : ℕ). conj q p r < n) (sym e) (conj-lt q (q + q) p r (subst (λ (n : ℕ). p < n) e hp) (subst (λ (n : ℕ). r < n) e hr))
 
 module _ (q p : ℕ) (rs : List ℕ) (m : ℕ) (xs : List ℕ) (N : Neighbours q p rs m xs) where
+  -- each store leaves those before it
   pub neighbours-more : (x : ℕ) → m < natives → x ≡ conj q p (at rs m) → Neighbours q p rs (m + 1) (set xs m x)
   neighbours-more x l e = record {
     long = length-set xs m x ∙ N .long;
     each = stored-more (λ (i y : ℕ). y ≡ conj q p (at rs i)) xs 0 m x (omega (arith, N .long)) (N .each) e;
   }
 
+  -- what is stored is a string
   pub neighbours-small : p < 4 ^ q → ((i : ℕ) → at rs i < 4 ^ q) → (i : ℕ) → i < m → at xs i < 4 ^ q
   neighbours-small hp hr i l = subst (λ (x : ℕ). x < 4 ^ q) (sym (N .each i l)) (conj-string q p (at rs i) hp (hr i))
 
@@ -79,7 +81,7 @@ module _ (q : ℕ) (f e : ℕ → ℕ) (p : ℕ) where
     λ d. omega (arith, d .less),
   )
 
-  -- no rotation leads to an entry of less depth than one less
+  -- no rotation leads to an entry of less depth than one less, which is to say of a value up to this limit
   pub quiet-deep : 1024 ≤ e p → (n : ℕ) × Down q f e p n → Quiet q f e p (1024 * (depth (e p) - 1) - 1) ↔ Deep q f e p
   quiet-deep l d = (
     λ h. record {
@@ -96,12 +98,14 @@ module _ (q : ℕ) (f e : ℕ → ℕ) (p : ℕ) where
 -- ---- the rule
 
 module _ (q : ℕ) (f e : ℕ → ℕ) (p : ℕ) (some : p ≡ 0 → ⊥) (right : Right f e p) where
+  -- a native's value is of depth 0, and not 0
   no-native : (e p ≡ 0) ⊎ (1024 ≤ e p) → NoNative f p
   no-native h n l z = go (kept-for f p n l z)
     where
       go : KeptFor f p (keptFor f p) → ⊥
       go k = let w : e p ≡ keptFor f p + 1 = right (keptFor f p) k in ⊎-elim (λ y. omega arith) (λ y. omega (arith, k .below)) h
 
+  -- it says so, and names the kept native
   native-named : (n : ℕ) → KeptFor f p n → (depth (e p) ≡ 0) × Names (e p) n
   native-named n k = let w : e p ≡ n + 1 = right n k in (omega (arith, k .below), omega (arith, k .below))
 

@@ -10,6 +10,7 @@ use Rattle.table.specs.Rules.{Rule}
 use Rattle.table_check.specs.Tests.{Right, Wrong, Ceiling, Stops}
 
 module _ (q : ℕ) (f e : ℕ → ℕ) where
+  -- before the first native
   pub ceiling-none : Ceiling q f e 0 (4 ^ q)
   ceiling-none = record { within = omega arith; right = λ p n l. absurd (omega arith); wrong = λ l. absurd (omega arith) }
 
@@ -49,9 +50,11 @@ module _ (q : ℕ) (f e : ℕ → ℕ) where
       go h = w .value (omega (arith, h .0, h .1))
 
   module _ (r : ℕ) (C : Ceiling q f e natives r) where
+    -- below it a native's value is right
     pub below-right : (p : ℕ) → (p ≡ 0 → ⊥) → p < r → Right f e p
     below-right p s l n k = C .right p n (k .below) k s l
 
+    -- it is not 0, which is no nonzero string
     pub ceiling-positive : 0 < r
     ceiling-positive = elim (ℕ-discrete r 0) [ yes z ↦ absurd (C .wrong (omega (arith, four-pos q)) .some z) | no g ↦ omega arith ]
 
@@ -61,6 +64,7 @@ module _ (q : ℕ) (f e : ℕ → ℕ) where
 
   -- ---- index 0
 
+  -- it meets its rule with 541
   pub first-meets : e 0 ≡ identity → (p : ℕ) → p < 1 → Rule q f e p
   first-meets h p l = let z : p ≡ 0 = omega arith in record {
     first = λ _. ap e z ∙ h;
@@ -69,5 +73,6 @@ module _ (q : ℕ) (f e : ℕ → ℕ) where
     without = λ s. absurd (s z);
   }
 
+  -- and with no other value
   pub first-stops : (e 0 ≡ identity → ⊥) → Stops q f e 0
   first-stops h = record { within = omega arith; meets = λ p l. absurd (omega arith); breaks = λ _ r. h (r .first refl) }
