@@ -1,9 +1,8 @@
 -- Which answer the definitions of the lookups give, test by test. Assumes nothing.
 use mathlib.Core.Path.{_≡_, refl, sym, ap, ap₂, subst, _∙_}
-use mathlib.Core.Bool.{true, false, cond}
+use mathlib.Core.Bool.{Bool, true, false, cond}
 use mathlib.Core.List.{List}
 use Prim.Native.Nat.{ℕ, _*_, _≤_, _<_}
-use lib.Dec.{eqb}
 use lib.Seq.{sets}
 use borrow.Author.Tests.{lt-ltb, le-ltb, eq-eqb, ne-eqb}
 use Rattle.bicycle_common.specs.declared.Refusal.{Refusal}
@@ -16,10 +15,9 @@ use Rattle.measurement.specs.Measures.{nativeString}
 use Rattle.table.specs.Bytes.{entry}
 use Rattle.table.specs.Entries.{depth}
 use Rattle.table.specs.Answers.{given}
-use Rattle.lookup.specs.declared.LookupAnswer.{LookupAnswer}
-use Rattle.lookup.specs.declared.LookupAnswer.the-variants.{Is, Refused}
+use Rattle.lookup.specs.declared.LookupAnswer.the-variants.{Refused}
 use Rattle.lookup.specs.Walks.{named, good, bottom, rotations, sound, best}
-use Rattle.lookup.specs.Answers.{twoBytes, Lookup, refusing, Leaves, planBy, planned, found, walked, bestOf, free, whereGiven, exact, pivotFree}
+use Rattle.lookup.specs.Answers.{twoBytes, Lookup, refusing, Leaves, planBy, planned, found, walked, bestOf, wherePassed, allowed, sought, lookedUp}
 
 -- a refusal leaves the buffer as it was
 pub refuses : (o : Lookup) (r : Refusal) (l : List ℕ) → o ≡ refusing r → Leaves o l (Refused r) l
@@ -63,50 +61,48 @@ plans q f e p b n d l m hb hn hd hm = record {
   buffer = hm;
 }
 
--- ---- the public calls
+-- ---- the calls
 
-module _ (q s : ℕ) (t mx my : List ℕ) (p room : ℕ) where
-  abbrev f : ℕ → ℕ
-  f = nativeString s (ofBytes s mx) (ofBytes s my)
+module _ (any : Bool) (q s : ℕ) (t mx my : List ℕ) (p room : ℕ) where
+  -- what the table decides
+  abbrev decided : Lookup
+  decided = sought any q (nativeString s (ofBytes s mx) (ofBytes s my)) (entry t) p room
 
   -- what follows the tests of the table and the pair
-  abbrev exactly : Lookup
-  exactly = cond (isString q p) (cond (eqb p 0) (refusing Identity) (walked q f (entry t) p room)) (refusing StringRange)
+  abbrev asked : Lookup
+  asked = cond (isString q p) (wherePassed (allowed any q p) decided) (refusing StringRange)
 
-  pub exact-no : (r : Refusal) → given q s t mx my ≡ NotDone r → exact q s t mx my p room ≡ refusing r
-  unfolding exact
-  exact-no r z = ap (λ (o : Outcome). whereGiven o exactly) z
-
-  module _ (g : given q s t mx my ≡ Done) where
-    pub exact-range : isString q p ≡ false → exact q s t mx my p room ≡ refusing StringRange
-    unfolding exact
-    exact-range z = ap (λ (o : Outcome). whereGiven o exactly) g ∙ rw z
-
-    pub exact-identity : isString q p ≡ true → p ≡ 0 → exact q s t mx my p room ≡ refusing Identity
-    unfolding exact
-    exact-identity z i = ap (λ (o : Outcome). whereGiven o exactly) g ∙ rw (z, eq-eqb p 0 i)
-
-    pub exact-walked : isString q p ≡ true → (p ≡ 0 → ⊥) → exact q s t mx my p room ≡ walked q f (entry t) p room
-    unfolding exact
-    exact-walked z i = ap (λ (o : Outcome). whereGiven o exactly) g ∙ rw (z, ne-eqb p 0 i)
-
-  -- the same without the pivot
-  abbrev freely : Lookup
-  freely = cond (isString q p) (cond (hasPivot q p) (refusing PivotSet) (free q f (entry t) p room)) (refusing StringRange)
-
-  pub free-no : (r : Refusal) → given q s t mx my ≡ NotDone r → pivotFree q s t mx my p room ≡ refusing r
-  unfolding pivotFree
-  free-no r z = ap (λ (o : Outcome). whereGiven o freely) z
+  pub not-given : (r : Refusal) → given q s t mx my ≡ NotDone r → lookedUp any q s t mx my p room ≡ refusing r
+  unfolding lookedUp
+  not-given r z = ap (λ (o : Outcome). wherePassed o asked) z
 
   module _ (g : given q s t mx my ≡ Done) where
-    pub free-range : isString q p ≡ false → pivotFree q s t mx my p room ≡ refusing StringRange
-    unfolding pivotFree
-    free-range z = ap (λ (o : Outcome). whereGiven o freely) g ∙ rw z
+    pub not-string : isString q p ≡ false → lookedUp any q s t mx my p room ≡ refusing StringRange
+    unfolding lookedUp
+    not-string z = ap (λ (o : Outcome). wherePassed o asked) g ∙ rw z
 
-    pub free-pivot : isString q p ≡ true → hasPivot q p ≡ true → pivotFree q s t mx my p room ≡ refusing PivotSet
-    unfolding pivotFree
-    free-pivot z i = ap (λ (o : Outcome). whereGiven o freely) g ∙ rw (z, i)
+    module _ (i : isString q p ≡ true) where
+      to-allowed : lookedUp any q s t mx my p room ≡ wherePassed (allowed any q p) decided
+      unfolding lookedUp
+      to-allowed = ap (λ (o : Outcome). wherePassed o asked) g ∙ rw i
 
-    pub free-best : isString q p ≡ true → hasPivot q p ≡ false → pivotFree q s t mx my p room ≡ free q f (entry t) p room
-    unfolding pivotFree
-    free-best z i = ap (λ (o : Outcome). whereGiven o freely) g ∙ rw (z, i)
+      pub not-allowed : (r : Refusal) → allowed any q p ≡ NotDone r → lookedUp any q s t mx my p room ≡ refusing r
+      not-allowed r z = to-allowed ∙ ap (λ (o : Outcome). wherePassed o decided) z
+
+      pub is-sought : allowed any q p ≡ Done → lookedUp any q s t mx my p room ≡ decided
+      is-sought z = to-allowed ∙ ap (λ (o : Outcome). wherePassed o decided) z
+
+-- ---- which strings are allowed
+
+module _ (q p : ℕ) where
+  pub exact-not : p ≡ 0 → allowed false q p ≡ NotDone Identity
+  exact-not z = rw (eq-eqb p 0 z)
+
+  pub exact-allowed : (p ≡ 0 → ⊥) → allowed false q p ≡ Done
+  exact-allowed h = rw (ne-eqb p 0 h)
+
+  pub free-not : hasPivot q p ≡ true → allowed true q p ≡ NotDone PivotSet
+  free-not z = rw z
+
+  pub free-allowed : hasPivot q p ≡ false → allowed true q p ≡ Done
+  free-allowed z = rw z

@@ -1,23 +1,23 @@
 -- What holds of every refusal, and of the plan where nothing is refused, holds of what a lookup answers and writes. Assumes nothing.
 use mathlib.Core.Path.{_≡_, refl}
-use mathlib.Core.Bool.{Bool, true, false, cond, _&&_, and-eq-true-iff}
+use mathlib.Core.Bool.{Bool, true, false, cond, _&&_}
 use mathlib.Core.List.{List}
 use Prim.Native.Nat.{ℕ, _*_, _≤_}
 use lib.Dec.{eqb, ltb}
 use borrow.Author.Tests.{eqb-false, ltb-false}
 use Rattle.bicycle_common.specs.declared.Pauli.the-variants.{X, Z, Y}
 use Rattle.bicycle_common.specs.declared.Refusal.{Refusal}
-use Rattle.bicycle_common.specs.declared.Refusal.the-variants.{StringRange, Identity, PivotSet, NoEntry, BadEntry, Room}
+use Rattle.bicycle_common.specs.declared.Refusal.the-variants.{StringRange, NoEntry, BadEntry, Room}
 use Rattle.bicycle_common.specs.declared.Outcome.{Outcome}
 use Rattle.bicycle_common.specs.declared.Outcome.the-variants.{Done, Refused as NotDone}
-use Rattle.pauli_string.specs.Strings.{isString, hasPivot}
+use Rattle.pauli_string.specs.Strings.{isString}
 use Rattle.measurement.specs.Matrices.{ofBytes}
 use Rattle.measurement.specs.Measures.{nativeString}
 use Rattle.table.specs.Bytes.{entry}
 use Rattle.table.specs.Entries.{depth}
 use Rattle.table.specs.Answers.{given}
 use Rattle.lookup.specs.Walks.{good, sound, best, candidate}
-use Rattle.lookup.specs.Answers.{Lookup, refusing, planned, found, walked, free, whereGiven, exact, pivotFree}
+use Rattle.lookup.specs.Answers.{Lookup, refusing, planned, found, walked, free, wherePassed, allowed, sought, lookedUp}
 
 module _ (P : Lookup → Type 0) where
   -- by a test, whose outcome is known on either side
@@ -42,28 +42,14 @@ module _ (P : Lookup → Type 0) where
           let y = candidate q p Y in
           by (sound q f e x && sound q f e z && sound q f e y) (walked q f e (best e x z y) room) (refusing BadEntry) (λ s. h) (λ s. no BadEntry)
 
-    given-case : (g : Outcome) (o : Lookup) → (g ≡ Done → P o) → P (whereGiven g o)
-    given-case Done o h = h refl
-    given-case (NotDone r) o h = no r
+    passed-case : (g : Outcome) (o : Lookup) → P o → P (wherePassed g o)
+    passed-case Done o h = h
+    passed-case (NotDone r) o h = no r
 
-    module _ (q s : ℕ) (t mx my : List ℕ) (p room : ℕ) where
-      abbrev f : ℕ → ℕ
-      f = nativeString s (ofBytes s mx) (ofBytes s my)
-
-      pub exact-case : ((p ≡ 0 → ⊥) → P (walked q f (entry t) p room)) → P (exact q s t mx my p room)
-      unfolding exact
-      exact-case h =
-          let w = walked q f (entry t) p room in
-          given-case (given q s t mx my) (cond (isString q p) (cond (eqb p 0) (refusing Identity) w) (refusing StringRange))
-          (λ g. by (isString q p) (cond (eqb p 0) (refusing Identity) w) (refusing StringRange)
-          (λ i. by (eqb p 0) (refusing Identity) w (λ z. no Identity) (λ z. h (eqb-false p 0 z)))
-          (λ i. no StringRange))
-
-      pub pivot-free-case : P (free q f (entry t) p room) → P (pivotFree q s t mx my p room)
-      unfolding pivotFree
-      pivot-free-case h =
-          let w = free q f (entry t) p room in
-          given-case (given q s t mx my) (cond (isString q p) (cond (hasPivot q p) (refusing PivotSet) w) (refusing StringRange))
-          (λ g. by (isString q p) (cond (hasPivot q p) (refusing PivotSet) w) (refusing StringRange)
-          (λ i. by (hasPivot q p) (refusing PivotSet) w (λ z. no PivotSet) (λ z. h))
-          (λ i. no StringRange))
+    pub looked-up-case : (any : Bool) (q s : ℕ) (t mx my : List ℕ) (p room : ℕ)
+        → P (sought any q (nativeString s (ofBytes s mx) (ofBytes s my)) (entry t) p room) → P (lookedUp any q s t mx my p room)
+    unfolding lookedUp
+    looked-up-case any q s t mx my p room h =
+        let o = sought any q (nativeString s (ofBytes s mx) (ofBytes s my)) (entry t) p room in
+        passed-case (given q s t mx my) (cond (isString q p) (wherePassed (allowed any q p) o) (refusing StringRange))
+        (by (isString q p) (wherePassed (allowed any q p) o) (refusing StringRange) (λ i. passed-case (allowed any q p) o h) (λ i. no StringRange))

@@ -29,7 +29,7 @@ use Rattle.table.proofs.Rules.{native-or-none, rule-valid}
 use Rattle.lookup.specs.Walks.{named, next, down, good, sound, best, candidate}
 use Rattle.lookup.specs.Answers.{refusing, planBy, planned, walked, exact, pivotFree}
 use Rattle.lookup.proofs.Walks.{down-none, At, good-all, sound-none, sound-some, best-of}
-use Rattle.lookup.proofs.Answers.{found-fits, walked-none, walked-good, best-walked, exact-walked, free-best}
+use Rattle.lookup.proofs.Answers.{found-fits, walked-none, walked-good, best-walked, is-sought, exact-allowed, free-allowed}
 
 module _ (q : ℕ) (f e : ℕ → ℕ) (small : (n : ℕ) → f n < 4 ^ q) (ok : (p : ℕ) → p < 4 ^ q → Rule q f e p) where
   -- a string of depth above 0 is no native
@@ -120,14 +120,18 @@ module _ (q s : ℕ) (t mx my : List ℕ) (p room : ℕ) (g : given q s t mx my 
   abbrev strings : ℕ → ℕ
   strings = nativeString s (ofBytes s mx) (ofBytes s my)
 
+  -- the walk decides the exact lookup
+  pub exact-walked : Nonzero q p → exact q s t mx my p room ≡ walked q strings (entry t) p room
+  exact-walked i = is-sought false q s t mx my p room g (is-string q p (i .below)) (exact-allowed q p (i .some))
+
   -- a string without an entry gets 7
   pub exact-none : Nonzero q p → entry t p ≡ 0 → exact q s t mx my p room ≡ refusing NoEntry
-  exact-none i z = exact-walked q s t mx my p room g (is-string q p (i .below)) (i .some) ∙ walked-none q strings (entry t) p room z
+  exact-none i z = exact-walked i ∙ walked-none q strings (entry t) p room z
 
   module _ (small : (n : ℕ) → strings n < 4 ^ q) (ok : (x : ℕ) → x < 4 ^ q → Rule q strings (entry t) x) where
     pub exact-planned : Nonzero q p → Has (entry t) p → 2 * depth (entry t p) ≤ room → exact q s t mx my p room ≡ planned q strings (entry t) p
     exact-planned i h l =
-        exact-walked q s t mx my p room g (is-string q p (i .below)) (i .some)
+        exact-walked i
         ∙ walked-good q strings (entry t) p room h (rule-good q strings (entry t) small ok p i h)
         ∙ found-fits q strings (entry t) p room l
 
@@ -139,7 +143,7 @@ module _ (q s : ℕ) (t mx my : List ℕ) (p room : ℕ) (g : given q s t mx my 
       pub free-walked : pivotFree q s t mx my p room ≡ walked q strings (entry t) winner room
       free-walked =
           let c = candidates q p positive below in
-          free-best q s t mx my p room g (is-string q p below) free
+          is-sought true q s t mx my p room g (is-string q p below) (free-allowed q p free)
           ∙ best-walked q strings (entry t) (candidate q p X) (candidate q p Z) (candidate q p Y) room
           (rule-sound q strings (entry t) small ok (candidate q p X) (c .with-x))
           (rule-sound q strings (entry t) small ok (candidate q p Z) (c .with-z))

@@ -7,16 +7,17 @@ use Prim.Native.Nat.{ℕ, zero, suc, _+_, _-_, _*_, _≤_, _<_}
 use native.Mathlib.Omega.{arith}
 use native.Mathlib.Decide.{ℕ-discrete, decLt}
 use lib.Dec.{eqb, ltb}
-use Rattle.bicycle_common.specs.Ranges.{allBelow, listed}
+use Rattle.bicycle_common.specs.declared.Pauli.the-variants.{X, Z, Y}
+use Rattle.bicycle_common.specs.Ranges.{allBelow}
 use Rattle.bicycle_common.specs.declared.Refusal.the-variants.{NoEntry, BadEntry, Room}
 use Rattle.bicycle_common.proofs.Ranges.{length-from, listed-at, listed-all}
 use Rattle.pauli_string.specs.Strings.{hasPivot, rotate}
 use Rattle.native_measurement.specs.Natives.{natives}
 use Rattle.natives.proofs.Kept.{kept-same}
 use Rattle.table.specs.Entries.{depth, field, valid}
-use Rattle.lookup.specs.Walks.{named, stands, next, down, good, bottom, rotationAt, rotations, sound, best}
-use Rattle.lookup.specs.Answers.{Lookup, refusing, planBy, found, walked, bestOf}
-use Rattle.lookup.proofs.Walks.{Valid, stands-valid, valid-none, valid-over, valid-in, At, all-hold, good-at}
+use Rattle.lookup.specs.Walks.{named, stands, next, down, good, rotationAt, rotations, sound, best, candidate}
+use Rattle.lookup.specs.Answers.{Lookup, refusing, planBy, found, walked, bestOf, sought}
+use Rattle.lookup.proofs.Walks.{stands-valid, valid-none, valid-over, valid-in, At, all-hold, good-at}
 
 -- two tests that agree at each number below which the first holds everywhere
 all-led : (n : ℕ) (s t : ℕ → Bool) → ((k : ℕ) → k < n → ((j : ℕ) → j < k → s j ≡ true) → s k ≡ t k) → allBelow n s ≡ allBelow n t
@@ -80,7 +81,7 @@ module _ (q : ℕ) (f g : ℕ → ℕ) (h : (n : ℕ) → n < natives → f n �
           ap (λ (o : Lookup). cond (ltb room (2 * depth (e p))) (refusing (Room (2 * depth (e p)))) o)
           (ap₂ (λ (x : ℕ) (ns : List ℕ). planBy x (named (e x)) (depth (e p)) p ns) (place-same (depth (e p)) (omega arith)) rotations-same)
 
-    pub walked-same : (room : ℕ) → walked q f e p room ≡ walked q g e p room
+    walked-same : (room : ℕ) → walked q f e p room ≡ walked q g e p room
     walked-same room = ap (λ (o : Lookup). cond (eqb (e p) 0) (refusing NoEntry) o) (by (good q f e p) refl ∙ ap (λ (b : Bool). cond b (found q g e p room) (refusing BadEntry)) good-same)
       where
         by : (b : Bool) → good q f e p ≡ b → cond b (found q f e p room) (refusing BadEntry) ≡ cond b (found q g e p room) (refusing BadEntry)
@@ -91,8 +92,12 @@ module _ (q : ℕ) (f g : ℕ → ℕ) (h : (n : ℕ) → n < natives → f n �
     unfolding sound
     sound-same = ap (λ (b : Bool). cond (eqb (e p) 0) true b) good-same
 
-  pub best-same : (e : ℕ → ℕ) (x z y room : ℕ) → bestOf q f e x z y room ≡ bestOf q g e x z y room
+  best-same : (e : ℕ → ℕ) (x z y room : ℕ) → bestOf q f e x z y room ≡ bestOf q g e x z y room
   best-same e x z y room =
       ap₂ (λ (b : Bool) (o : Lookup). cond b o (refusing BadEntry))
       (ap₂ _&&_ (ap₂ _&&_ (sound-same e x) (sound-same e z)) (sound-same e y))
       (walked-same e (best e x z y) room)
+
+  pub sought-same : (any : Bool) (e : ℕ → ℕ) (p room : ℕ) → sought any q f e p room ≡ sought any q g e p room
+  sought-same true e p room = best-same e (candidate q p X) (candidate q p Z) (candidate q p Y) room
+  sought-same false e p room = walked-same e p room

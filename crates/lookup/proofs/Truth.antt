@@ -1,10 +1,9 @@
 -- What a lookup answers is a true plan, on any table: going down a walk and then up by its rotations ends where it began, because a rotation
 -- undoes itself. Assumes nothing.
-use mathlib.Core.Path.{_≡_, refl, sym, ap, subst, _∙_}
-use mathlib.Core.Bool.{Bool, true, cond, _&&_}
-use mathlib.Core.Logic.{⊎-elim}
+use mathlib.Core.Path.{_≡_, refl, sym, ap, _∙_}
+use mathlib.Core.Bool.{Bool, true, false, cond, _&&_}
 use mathlib.Core.List.{List}
-use Prim.Native.Nat.{ℕ, zero, suc, _+_, _-_, _^_, _≤_, _<_}
+use Prim.Native.Nat.{ℕ, zero, suc, _+_, _-_, _≤_, _<_}
 use native.Mathlib.Omega.{arith}
 use lib.Dec.{eqb}
 use borrow.Author.Tests.{eqb-true, eq-eqb, ne-eqb}
@@ -12,23 +11,17 @@ use Rattle.bicycle_common.specs.declared.Pauli.the-variants.{X, Z, Y}
 use Rattle.bicycle_common.specs.Ranges.{listFrom}
 use Rattle.bicycle_common.proofs.Ranges.{length-from}
 use Rattle.pauli_string.specs.Strings.{hasPivot}
-use Rattle.pauli_string.proofs.Pivot.{rotate-rotate, rotate-string, rotate-nonzero}
+use Rattle.pauli_string.proofs.Pivot.{rotate-rotate}
 use Rattle.measurement.specs.Matrices.{ofBytes}
 use Rattle.measurement.specs.Measures.{nativeString}
-use Rattle.shortest.specs.Graphs.{Has}
 use Rattle.table.specs.Bytes.{entry}
-use Rattle.table.specs.Entries.{depth, field, KeptFor, Rotation, leads}
-use Rattle.table.specs.Rules.{NoNative, Down, Deep, Rule}
-use Rattle.table.specs.Plans.{Nonzero, applied, All}
-use Rattle.table.proofs.Rules.{native-or-none, rule-valid}
-use Rattle.lookup.specs.declared.LookupAnswer.{LookupAnswer}
-use Rattle.lookup.specs.declared.LookupAnswer.the-variants.{Is, Refused}
-use Rattle.lookup.specs.declared.MeasurementImpl.{MeasurementImpl}
-use Rattle.lookup.specs.Walks.{named, stands, next, down, good, bottom, rotationAt, rotations, best, candidate}
-use Rattle.lookup.specs.Answers.{Lookup, planned, walked, exact, pivotFree}
+use Rattle.table.specs.Entries.{depth, KeptFor, Rotation, leads}
+use Rattle.table.specs.Plans.{applied, All}
+use Rattle.lookup.specs.Walks.{named, next, down, good, bottom, rotationAt, best, candidate}
+use Rattle.lookup.specs.Answers.{planned, walked, exact, pivotFree}
 use Rattle.lookup.specs.Truth.{Truly}
-use Rattle.lookup.proofs.Walks.{Valid, stands-valid, At, good-at, good-all}
-use Rattle.lookup.proofs.Cases.{walked-case, free-case, exact-case, pivot-free-case}
+use Rattle.lookup.proofs.Walks.{Valid, stands-valid, good-at}
+use Rattle.lookup.proofs.Cases.{walked-case, free-case, looked-up-case}
 
 -- ---- a good walk is a plan
 
@@ -93,10 +86,10 @@ module _ (q s : ℕ) (t mx my : List ℕ) (p room : ℕ) where
   strings = nativeString s (ofBytes s mx) (ofBytes s my)
 
   pub exact-true : Truly q strings p (exact q s t mx my p room)
-  exact-true = exact-case (Truly q strings p) (λ r. tt) q s t mx my p room (λ some. walked-true q strings (entry t) p room)
+  exact-true = looked-up-case (Truly q strings p) (λ r. tt) false q s t mx my p room (walked-true q strings (entry t) p room)
 
   pub pivot-free-true : Truly q strings (best (entry t) (candidate q p X) (candidate q p Z) (candidate q p Y)) (pivotFree q s t mx my p room)
   pivot-free-true =
       let w = best (entry t) (candidate q p X) (candidate q p Z) (candidate q p Y) in
-      pivot-free-case (Truly q strings w) (λ r. tt) q s t mx my p room
+      looked-up-case (Truly q strings w) (λ r. tt) true q s t mx my p room
       (free-case (Truly q strings w) (λ r. tt) q strings (entry t) room p (walked-true q strings (entry t) w room))

@@ -1,11 +1,12 @@
 -- What a lookup writes is counted by its answer and has room in the buffer, so that the front of the buffer is what was written. Assumes
 -- nothing.
 use mathlib.Core.Path.{_≡_, refl, sym, ap, subst, _∙_}
-use mathlib.Core.List.{List, [], _∷_, _++_}
+use mathlib.Core.Bool.{Bool, true, false}
+use mathlib.Core.List.{List, [], _∷_}
 use Prim.Native.Nat.{ℕ, _+_, _*_, _≤_}
 use native.Mathlib.Omega.{arith}
 use lib.ListN.{length, take, drop}
-use lib.Seq.{sets, sets-eq, take-at}
+use lib.Seq.{sets-eq, take-at}
 use Rattle.bicycle_common.specs.declared.Pauli.the-variants.{X, Z, Y}
 use Rattle.bicycle_common.specs.declared.Refusal.{Refusal}
 use Rattle.bicycle_common.proofs.Ranges.{length-from}
@@ -17,8 +18,8 @@ use Rattle.lookup.specs.declared.LookupAnswer.{LookupAnswer}
 use Rattle.lookup.specs.declared.LookupAnswer.the-variants.{Is, Refused}
 use Rattle.lookup.specs.declared.MeasurementImpl.{MeasurementImpl}
 use Rattle.lookup.specs.Walks.{rotationAt, best, candidate}
-use Rattle.lookup.specs.Answers.{twoBytes, Lookup, Leaves, walked, exact, pivotFree}
-use Rattle.lookup.proofs.Cases.{walked-case, free-case, exact-case, pivot-free-case}
+use Rattle.lookup.specs.Answers.{twoBytes, Lookup, Leaves, walked, sought, lookedUp}
+use Rattle.lookup.proofs.Cases.{walked-case, free-case, looked-up-case}
 
 -- ns is counted by the answer, with room for two bytes each; a refusal goes with no number at all
 abbrev Counts : ℕ → LookupAnswer → List ℕ → Type 0
@@ -34,18 +35,15 @@ module _ (q : ℕ) (f e : ℕ → ℕ) (room : ℕ) where
       let l = length-from (rotationAt q f e p) 0 (depth (e p)) in
       walked-case (Counted room) (λ r. refl) q f e room p (λ some g h. (sym l, omega (arith, l)))
 
-module _ (q s : ℕ) (t mx my : List ℕ) (p room : ℕ) where
-  abbrev f : ℕ → ℕ
-  f = nativeString s (ofBytes s mx) (ofBytes s my)
+  sought-counted : (any : Bool) (p : ℕ) → Counted room (sought any q f e p room)
+  sought-counted true p =
+      free-case (Counted room) (λ r. refl) q f e room p (walked-counted (best e (candidate q p X) (candidate q p Z) (candidate q p Y)))
+  sought-counted false p = walked-counted p
 
-  pub exact-counted : Counted room (exact q s t mx my p room)
-  exact-counted = exact-case (Counted room) (λ r. refl) q s t mx my p room (λ some. walked-counted q f (entry t) room p)
-
-  pub pivot-free-counted : Counted room (pivotFree q s t mx my p room)
-  pivot-free-counted =
-      pivot-free-case (Counted room) (λ r. refl) q s t mx my p room
-      (free-case (Counted room) (λ r. refl) q f (entry t) room p
-      (walked-counted q f (entry t) room (best (entry t) (candidate q p X) (candidate q p Z) (candidate q p Y))))
+pub counted : (any : Bool) (q s : ℕ) (t mx my : List ℕ) (p room : ℕ) → Counted room (lookedUp any q s t mx my p room)
+counted any q s t mx my p room =
+    looked-up-case (Counted room) (λ r. refl) any q s t mx my p room
+    (sought-counted q (nativeString s (ofBytes s mx) (ofBytes s my)) (entry t) room any p)
 
 -- ---- the front
 

@@ -1,6 +1,6 @@
 -- What the lookups answer, and the natives that they write: the lowest number of 1, 3, 4, 5 (6 without the pivot), 7, 8, 9 that applies, or
 -- the plan. Assumes nothing.
-use mathlib.Core.Bool.{cond, _&&_}
+use mathlib.Core.Bool.{Bool, true, false, cond, _&&_}
 use mathlib.Core.List.{List, [], _∷_}
 use mathlib.Core.Path.{_≡_}
 use Prim.Native.Nat.{ℕ, _*_, _/_, _%_}
@@ -76,23 +76,34 @@ module _ (q : ℕ) (f e : ℕ → ℕ) where
   abbrev pub free : ℕ → ℕ → Lookup
   free p room = bestOf (candidate q p X) (candidate q p Z) (candidate q p Y) room
 
--- what is answered where a table and a pair are given
-abbrev pub whereGiven : Outcome → Lookup → Lookup
-whereGiven Done o = o
-whereGiven (NotDone r) o = refusing r
+-- ---- the calls
 
--- the exact lookup of p in the table t of a pair, with a buffer of length room
-unfoldable pub exact : ℕ → ℕ → List ℕ → List ℕ → List ℕ → ℕ → ℕ → Lookup
-exact q s t mx my p room =
-    whereGiven (given q s t mx my)
+-- what is answered where a test is passed
+abbrev pub wherePassed : Outcome → Lookup → Lookup
+wherePassed Done o = o
+wherePassed (NotDone r) o = refusing r
+
+-- A lookup is of p itself, or, with any letter on the pivot, of the best candidate. 5 for the first of 0, 6 for the second where a letter
+-- stands on the pivot:
+abbrev pub allowed : Bool → ℕ → ℕ → Outcome
+allowed any q p = cond any (cond (hasPivot q p) (NotDone PivotSet) Done) (cond (eqb p 0) (NotDone Identity) Done)
+
+-- what the table decides
+abbrev pub sought : Bool → ℕ → (ℕ → ℕ) → (ℕ → ℕ) → ℕ → ℕ → Lookup
+sought any q f e p room = cond any (free q f e p room) (walked q f e p room)
+
+-- the lookup of p in the table t of a pair, with a buffer of length room
+unfoldable pub lookedUp : Bool → ℕ → ℕ → List ℕ → List ℕ → List ℕ → ℕ → ℕ → Lookup
+lookedUp any q s t mx my p room =
+    wherePassed (given q s t mx my)
     (cond (isString q p)
-    (cond (eqb p 0) (refusing Identity) (walked q (nativeString s (ofBytes s mx) (ofBytes s my)) (entry t) p room))
+    (wherePassed (allowed any q p) (sought any q (nativeString s (ofBytes s mx) (ofBytes s my)) (entry t) p room))
     (refusing StringRange))
+
+-- the exact lookup
+abbrev pub exact : ℕ → ℕ → List ℕ → List ℕ → List ℕ → ℕ → ℕ → Lookup
+exact = lookedUp false
 
 -- the pivot-free lookup
-unfoldable pub pivotFree : ℕ → ℕ → List ℕ → List ℕ → List ℕ → ℕ → ℕ → Lookup
-pivotFree q s t mx my p room =
-    whereGiven (given q s t mx my)
-    (cond (isString q p)
-    (cond (hasPivot q p) (refusing PivotSet) (free q (nativeString s (ofBytes s mx) (ofBytes s my)) (entry t) p room))
-    (refusing StringRange))
+abbrev pub pivotFree : ℕ → ℕ → List ℕ → List ℕ → List ℕ → ℕ → ℕ → Lookup
+pivotFree = lookedUp true

@@ -28,7 +28,7 @@ ghost use Rattle.table.specs.Bytes.{tableLength, entry};
 ghost use Rattle.table.specs.Entries.{depth, leads, valid};
 ghost use Rattle.lookup.specs.Walks;
 ghost use Rattle.lookup.specs.Walks.{stands, good, bottom, rotations, sound};
-ghost use Rattle.lookup.specs.Answers.{twoBytes, Leaves, found, walked, bestOf, free, exact, pivotFree};
+ghost use Rattle.lookup.specs.Answers.{twoBytes, Leaves, found, walked, bestOf, free, allowed, sought, lookedUp, exact, pivotFree};
 
 // A native, and the string that it measures.
 pub struct NativeMeasurementImpl {
@@ -185,62 +185,6 @@ fn look(table: &[u8], strings: &[u32; 540], p: u32, out: &mut [u8]) -> LookupAns
     found(table, strings, p, out)
 }
 
-// The same, with the natives formed from the pair.
-fn look_pair(table: &[u8], mx: &[u8], my: &[u8], p: u32, out: &mut [u8]) -> LookupAnswer
-    requires { ⌜ (length (now table) ≡ tableLength qubits) × (p < 4 ^ qubits) ⌝ }
-    requires { ⌜ (isBytes side (now mx) ≡ true) × (isBytes side (now my) ≡ true) ⌝ }
-    ensures { λ r. ⌜ Leaves (walked qubits (nativeString side (ofBytes side (now (mx .entry))) (ofBytes side (now (my .entry)))) (entry (now (table .entry))) p (length (now (out .entry)))) (now (out .entry)) r (now (out .exit)) ⌝ }
-{
-    let mut strings = [0u32; 540];
-    natives::strings_unchecked(mx, my, &mut strings);
-    look(table, &strings, p, out)
-}
-
-// The plan of string p by the table of the pair: a native, and rotations whose natives are written to the buffer, base
-// side first, two bytes each, low first.
-pub fn implementation(
-    table: &[u8],
-    mx: &[u8],
-    my: &[u8],
-    p: PauliString,
-    out: &mut [u8],
-) -> LookupAnswer
-    ensures { λ r. ⌜ Leaves (exact qubits side (now (table .entry)) (now (mx .entry)) (now (my .entry)) (p .0) (length (now (out .entry)))) (now (out .entry)) r (now (out .exit)) ⌝ }
-{
-    match table::given(table, mx, my) {
-        Outcome::Refused(r) => LookupAnswer::Refused(r),
-        Outcome::Done => {
-            if p.0 >= STRINGS {
-                return LookupAnswer::Refused(Refusal::StringRange);
-            }
-            if p.0 == 0 {
-                return LookupAnswer::Refused(Refusal::Identity);
-            }
-            look_pair(table, mx, my, p.0, out)
-        }
-    }
-}
-
-// The rotations of `implementation`, which does the work: the front of the caller's own buffer that it filled, empty on a
-// refusal.
-pub fn rotations<'a>(
-    table: &[u8],
-    mx: &[u8],
-    my: &[u8],
-    p: PauliString,
-    out: &'a mut [u8],
-) -> &'a mut [u8]
-    ensures { λ r. ⌜ (now r ≡ twoBytes (exact qubits side (now (table .entry)) (now (mx .entry)) (now (my .entry)) (p .0) (length (now (out .entry))) .written)) × (r .ptr ≡ out .entry .ptr) ⌝ }
-{
-    match implementation(table, mx, my, p, out) {
-        LookupAnswer::Is(m) => {
-            let k = 2 * m.rotations as usize;
-            &mut out[..k]
-        }
-        LookupAnswer::Refused(_) => &mut out[..0],
-    }
-}
-
 // ---- the pivot-free lookup
 
 // Whether p has no entry, or a good walk.
@@ -321,15 +265,120 @@ fn look_free(table: &[u8], strings: &[u32; 540], p: u32, out: &mut [u8]) -> Look
     look_best(table, strings, x.0, z.0, y.0, out)
 }
 
-// The same, with the natives formed from the pair.
-fn free_pair(table: &[u8], mx: &[u8], my: &[u8], p: u32, out: &mut [u8]) -> LookupAnswer
+// One or the other.
+fn look_sought(
+    table: &[u8],
+    strings: &[u32; 540],
+    p: u32,
+    any: bool,
+    out: &mut [u8],
+) -> LookupAnswer
+    requires { ⌜ (length (now table) ≡ tableLength qubits) × (p < 4 ^ qubits) × Held qubits (now strings) ⌝ }
+    ensures { λ r. ⌜ Leaves (sought any qubits (at (now (strings .entry))) (entry (now (table .entry))) p (length (now (out .entry)))) (now (out .entry)) r (now (out .exit)) ⌝ }
+{
+    if any {
+        return look_free(table, strings, p, out);
+    }
+    look(table, strings, p, out)
+}
+
+// ---- the calls
+
+// Whether p may be looked up: not 0 itself (5), and with any letter on the pivot no string that has one there (6).
+fn is_allowed(p: PauliString, any: bool) -> Outcome
+    ensures { λ r. ⌜ r ≡ allowed any qubits (p .0) ⌝ }
+{
+    if any {
+        if p.has_pivot_support_unchecked() {
+            return Outcome::Refused(Refusal::PivotSet);
+        }
+        return Outcome::Done;
+    }
+    if p.0 == 0 {
+        return Outcome::Refused(Refusal::Identity);
+    }
+    Outcome::Done
+}
+
+// The lookup of p, or of p with any letter on the pivot, with the natives formed from the pair.
+fn look_pair(table: &[u8], mx: &[u8], my: &[u8], p: u32, any: bool, out: &mut [u8]) -> LookupAnswer
     requires { ⌜ (length (now table) ≡ tableLength qubits) × (p < 4 ^ qubits) ⌝ }
     requires { ⌜ (isBytes side (now mx) ≡ true) × (isBytes side (now my) ≡ true) ⌝ }
-    ensures { λ r. ⌜ Leaves (free qubits (nativeString side (ofBytes side (now (mx .entry))) (ofBytes side (now (my .entry)))) (entry (now (table .entry))) p (length (now (out .entry)))) (now (out .entry)) r (now (out .exit)) ⌝ }
+    ensures { λ r. ⌜ Leaves (sought any qubits (nativeString side (ofBytes side (now (mx .entry))) (ofBytes side (now (my .entry)))) (entry (now (table .entry))) p (length (now (out .entry)))) (now (out .entry)) r (now (out .exit)) ⌝ }
 {
     let mut strings = [0u32; 540];
     natives::strings_unchecked(mx, my, &mut strings);
-    look_free(table, &strings, p, out)
+    look_sought(table, &strings, p, any, out)
+}
+
+// The same with every test, in the order of their numbers.
+fn look_up(
+    table: &[u8],
+    mx: &[u8],
+    my: &[u8],
+    p: PauliString,
+    any: bool,
+    out: &mut [u8],
+) -> LookupAnswer
+    ensures { λ r. ⌜ Leaves (lookedUp any qubits side (now (table .entry)) (now (mx .entry)) (now (my .entry)) (p .0) (length (now (out .entry)))) (now (out .entry)) r (now (out .exit)) ⌝ }
+{
+    if let Outcome::Refused(r) = table::given(table, mx, my) {
+        return LookupAnswer::Refused(r);
+    }
+    if p.0 >= STRINGS {
+        return LookupAnswer::Refused(Refusal::StringRange);
+    }
+    if let Outcome::Refused(r) = is_allowed(p, any) {
+        return LookupAnswer::Refused(r);
+    }
+    look_pair(table, mx, my, p.0, any, out)
+}
+
+// The same work: the front of the caller's own buffer that it filled, empty on a refusal.
+fn front<'a>(
+    table: &[u8],
+    mx: &[u8],
+    my: &[u8],
+    p: PauliString,
+    any: bool,
+    out: &'a mut [u8],
+) -> &'a mut [u8]
+    ensures { λ r. ⌜ (now r ≡ twoBytes (lookedUp any qubits side (now (table .entry)) (now (mx .entry)) (now (my .entry)) (p .0) (length (now (out .entry))) .written)) × (r .ptr ≡ out .entry .ptr) ⌝ }
+{
+    match look_up(table, mx, my, p, any, out) {
+        LookupAnswer::Is(m) => {
+            let k = 2 * m.rotations as usize;
+            &mut out[..k]
+        }
+        LookupAnswer::Refused(_) => &mut out[..0],
+    }
+}
+
+// The plan of string p by the table of the pair: a native, and rotations whose natives are written to the buffer, base
+// side first, two bytes each, low first.
+pub fn implementation(
+    table: &[u8],
+    mx: &[u8],
+    my: &[u8],
+    p: PauliString,
+    out: &mut [u8],
+) -> LookupAnswer
+    ensures { λ r. ⌜ Leaves (exact qubits side (now (table .entry)) (now (mx .entry)) (now (my .entry)) (p .0) (length (now (out .entry)))) (now (out .entry)) r (now (out .exit)) ⌝ }
+{
+    look_up(table, mx, my, p, false, out)
+}
+
+// The rotations of that plan: the front of the caller's own buffer that holds them, empty on a refusal.
+pub fn rotations<'a>(
+    table: &[u8],
+    mx: &[u8],
+    my: &[u8],
+    p: PauliString,
+    out: &'a mut [u8],
+) -> &'a mut [u8]
+    ensures { λ r. ⌜ (now r ≡ twoBytes (exact qubits side (now (table .entry)) (now (mx .entry)) (now (my .entry)) (p .0) (length (now (out .entry))) .written)) × (r .ptr ≡ out .entry .ptr) ⌝ }
+{
+    front(table, mx, my, p, false, out)
 }
 
 // The plan for p, which has no letter on the pivot, with the letter there that needs the fewest rotations, the first of
@@ -337,22 +386,10 @@ fn free_pair(table: &[u8], mx: &[u8], my: &[u8], p: u32, out: &mut [u8]) -> Look
 pub fn min_data(table: &[u8], mx: &[u8], my: &[u8], p: PauliString, out: &mut [u8]) -> LookupAnswer
     ensures { λ r. ⌜ Leaves (pivotFree qubits side (now (table .entry)) (now (mx .entry)) (now (my .entry)) (p .0) (length (now (out .entry)))) (now (out .entry)) r (now (out .exit)) ⌝ }
 {
-    match table::given(table, mx, my) {
-        Outcome::Refused(r) => LookupAnswer::Refused(r),
-        Outcome::Done => {
-            if p.0 >= STRINGS {
-                return LookupAnswer::Refused(Refusal::StringRange);
-            }
-            if p.has_pivot_support_unchecked() {
-                return LookupAnswer::Refused(Refusal::PivotSet);
-            }
-            free_pair(table, mx, my, p.0, out)
-        }
-    }
+    look_up(table, mx, my, p, true, out)
 }
 
-// The rotations of `min_data`, which does the work: the front of the caller's own buffer that it filled, empty on a
-// refusal.
+// The rotations of that plan: the front of the caller's own buffer that holds them, empty on a refusal.
 pub fn min_data_rotations<'a>(
     table: &[u8],
     mx: &[u8],
@@ -362,11 +399,5 @@ pub fn min_data_rotations<'a>(
 ) -> &'a mut [u8]
     ensures { λ r. ⌜ (now r ≡ twoBytes (pivotFree qubits side (now (table .entry)) (now (mx .entry)) (now (my .entry)) (p .0) (length (now (out .entry))) .written)) × (r .ptr ≡ out .entry .ptr) ⌝ }
 {
-    match min_data(table, mx, my, p, out) {
-        LookupAnswer::Is(m) => {
-            let k = 2 * m.rotations as usize;
-            &mut out[..k]
-        }
-        LookupAnswer::Refused(_) => &mut out[..0],
-    }
+    front(table, mx, my, p, true, out)
 }

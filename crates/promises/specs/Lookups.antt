@@ -33,9 +33,9 @@ use Rattle.lookup.specs.Walks.{named, rotations, better, best, candidate, good,
 use Rattle.lookup.specs.Answers.{toldLookup, twoBytes, Lookup, Leaves, planBy, planned, found, walked, exact, pivotFree, free, refusing}
 use Rattle.lookup.specs.Truth.{Implements, AnswersTruly, Truly}
 use Rattle.lookup.proofs.Walks.{better-native, sound-none, sound-some, better-second}
-use Rattle.lookup.proofs.Answers.{found-short, found-fits, walked-none, walked-good, exact-range, exact-identity, exact-walked, free-range, free-pivot, exact-no, free-no, free-best, walked-bad, best-walked}
+use Rattle.lookup.proofs.Answers.{found-short, found-fits, walked-none, walked-good, walked-bad, best-walked, not-given, not-string, not-allowed, is-sought, exact-not, free-not, free-allowed}
 use Rattle.lookup.proofs.Truth.{exact-true, pivot-free-true}
-use Rattle.lookup.proofs.Ruled.{rule-good, planned-native, free-walked, free-planned}
+use Rattle.lookup.proofs.Ruled.{rule-good, planned-native, exact-walked, free-walked, free-planned}
 use Rattle.promises.specs.Checks.{stringOf, BuiltOrAccepted, Ruled, small, ruled-table}
 use Rattle.promises.specs.Demand3.{chosen, chosen-nonzero}
 
@@ -120,21 +120,21 @@ module _ (mx my t : List ℕ) (ok : BuiltOrAccepted mx my t) where
 
   pub exact-never-8 : (p room : ℕ) → toldLookup (exact qubits side t mx my p room .answer) .number ≡ 8 → ⊥
   exact-never-8 p room = elim (decLt p (4 ^ qubits)) [
-    | no g ↦ numbered 8 (exact-range qubits side t mx my p room (ready .is-given) (no-string qubits p (omega arith))) (λ n. omega arith)
+    | no g ↦ numbered 8 (not-string false qubits side t mx my p room (ready .is-given) (no-string qubits p (omega arith))) (λ n. omega arith)
     | yes below ↦ elim (ℕ-discrete p 0) [
-      | yes z ↦ numbered 8 (exact-identity qubits side t mx my p room (ready .is-given) (is-string qubits p below) z) (λ n. omega arith)
-      | no some ↦ numbered 8 (exact-walked qubits side t mx my p room (ready .is-given) (is-string qubits p below) some) (walked-never-8 p room (record { below = below; some = some }))
+      | yes z ↦ numbered 8 (not-allowed false qubits side t mx my p room (ready .is-given) (is-string qubits p below) Identity (exact-not qubits p z)) (λ n. omega arith)
+      | no some ↦ numbered 8 (exact-walked qubits side t mx my p room (ready .is-given) (record { below = below; some = some })) (walked-never-8 p room (record { below = below; some = some }))
     ]
   ]
 
   pub pivot-free-never-8 : (p room : ℕ) → toldLookup (pivotFree qubits side t mx my p room .answer) .number ≡ 8 → ⊥
   pivot-free-never-8 p room = elim (decLt p (4 ^ qubits)) [
-    | no g ↦ numbered 8 (free-range qubits side t mx my p room (ready .is-given) (no-string qubits p (omega arith))) (λ n. omega arith)
+    | no g ↦ numbered 8 (not-string true qubits side t mx my p room (ready .is-given) (no-string qubits p (omega arith))) (λ n. omega arith)
     | yes below ↦ by-pivot below (hasPivot qubits p) refl
   ]
     where
       by-pivot : p < 4 ^ qubits → (b : Bool) → hasPivot qubits p ≡ b → toldLookup (pivotFree qubits side t mx my p room .answer) .number ≡ 8 → ⊥
-      by-pivot below true z = numbered 8 (free-pivot qubits side t mx my p room (ready .is-given) (is-string qubits p below) z) (λ n. omega arith)
+      by-pivot below true z = numbered 8 (not-allowed true qubits side t mx my p room (ready .is-given) (is-string qubits p below) PivotSet (free-not qubits p z)) (λ n. omega arith)
       by-pivot below false z =
           numbered 8 (free-walked qubits side t mx my p room (ready .is-given) (small mx my) (ready .ruled) (lit< tt) below z)
           (walked-never-8 (chosen t p) room (chosen-nonzero mx my t ok p below z))
@@ -157,23 +157,23 @@ module _ (mx my t : List ℕ) (p room : ℕ) where
 
   -- both: 1, then 3, then 4
   pub no-table-1 : isTable qubits t ≡ false → (exactly ≡ refused 4 TableLength) × (freely ≡ refused 4 TableLength)
-  no-table-1 e = (same-told (exact-no qubits side t mx my p room TableLength (rw e)), same-told (free-no qubits side t mx my p room TableLength (rw e)))
+  no-table-1 e = (same-told (not-given false qubits side t mx my p room TableLength (rw e)), same-told (not-given true qubits side t mx my p room TableLength (rw e)))
 
   pub no-matrix-3 : isTable qubits t ≡ true → (isBytes side mx && isBytes side my) ≡ false → (exactly ≡ refused 4 Matrix) × (freely ≡ refused 4 Matrix)
-  no-matrix-3 e x = (same-told (exact-no qubits side t mx my p room Matrix (rw (e, x))), same-told (free-no qubits side t mx my p room Matrix (rw (e, x))))
+  no-matrix-3 e x = (same-told (not-given false qubits side t mx my p room Matrix (rw (e, x))), same-told (not-given true qubits side t mx my p room Matrix (rw (e, x))))
 
   module _ (g : given qubits side t mx my ≡ Done) where
     pub no-string-4 : 4 ^ qubits ≤ p → (exactly ≡ refused 4 StringRange) × (freely ≡ refused 4 StringRange)
     no-string-4 h =
-        (same-told (exact-range qubits side t mx my p room g (no-string qubits p h)), same-told (free-range qubits side t mx my p room g (no-string qubits p h)))
+        (same-told (not-string false qubits side t mx my p room g (no-string qubits p h)), same-told (not-string true qubits side t mx my p room g (no-string qubits p h)))
 
     -- the exact lookup: 5 for the identity, 7 for value 0, 8 for a bad walk, 9 with the length needed
     pub identity-5 : p ≡ 0 → exactly ≡ refused 4 Identity
-    identity-5 z = same-told (exact-identity qubits side t mx my p room g (is-string qubits p (subst (λ (x : ℕ). x < 4 ^ qubits) (sym z) (lit< tt))) z)
+    identity-5 z = same-told (not-allowed false qubits side t mx my p room g (is-string qubits p (subst (λ (x : ℕ). x < 4 ^ qubits) (sym z) (lit< tt))) Identity (exact-not qubits p z))
 
     module _ (i : Nonzero qubits p) where
       to-walk : exact qubits side t mx my p room ≡ walked qubits strings (entry t) p room
-      to-walk = exact-walked qubits side t mx my p room g (is-string qubits p (i .below)) (i .some)
+      to-walk = exact-walked qubits side t mx my p room g i
 
       pub no-entry-7 : entry t p ≡ 0 → exactly ≡ refused 4 NoEntry
       no-entry-7 z = same-told (to-walk ∙ walked-none qubits strings (entry t) p room z)
@@ -191,11 +191,11 @@ module _ (mx my t : List ℕ) (p room : ℕ) where
     -- the pivot-free lookup: 6 for a letter on the pivot, 7 where no candidate has an entry, 8 where one with an entry has a bad walk
     module _ (below : p < 4 ^ qubits) where
       pub pivot-set-6 : hasPivot qubits p ≡ true → freely ≡ refused 4 PivotSet
-      pivot-set-6 b = same-told (free-pivot qubits side t mx my p room g (is-string qubits p below) b)
+      pivot-set-6 b = same-told (not-allowed true qubits side t mx my p room g (is-string qubits p below) PivotSet (free-not qubits p b))
 
       module _ (b : hasPivot qubits p ≡ false) where
         to-best : pivotFree qubits side t mx my p room ≡ free qubits strings (entry t) p room
-        to-best = free-best qubits side t mx my p room g (is-string qubits p below) b
+        to-best = is-sought true qubits side t mx my p room g (is-string qubits p below) (free-allowed qubits p b)
 
         pub no-candidate-7 : ((l : Pauli) → (l ≡ I → ⊥) → entry t (candidate qubits p l) ≡ 0) → freely ≡ refused 4 NoEntry
         no-candidate-7 h =

@@ -1,7 +1,6 @@
--- `lookup::look_pair` meets its contract: a lookup reads the strings of the natives alone, and these are listed. Assumes nothing.
+-- `lookup::look_pair` meets its contract: a lookup reads the strings of the natives alone, and these are held. Assumes nothing.
 use borrow.Author.Needs.{needs}
 use mathlib.Core.Path.{subst}
-use Prim.Native.Nat.{ℕ}
 use lib.ListN.{length}
 use Rattle.pauli_string.specs.Strings.{qubits}
 use Rattle.measurement.specs.Matrices.{side, ofBytes}
@@ -10,13 +9,9 @@ use Rattle.natives.specs.Arrays.{at}
 use Rattle.natives.proofs.Arrays.{strings-at, strings-held}
 use Rattle.table.specs.Bytes.{entry}
 use Rattle.lookup.specs.Answers.{Lookup, Leaves}
-use Rattle.lookup.proofs.Same.{walked-same}
+use Rattle.lookup.proofs.Same.{sought-same}
 use Rattle.lookup.proofs.look_pair.Statement.{statement}
 use Rattle.lookup.proofs.look_pair.Tie as tie
-
--- the string of each native
-abbrev f : tie.Start → ℕ → ℕ
-f s = nativeString side (ofBytes side (s .args .mx .now)) (ofBytes side (s .args .my .now))
 
 slice-aggregate-strings-unchecked : tie.Need-slice-aggregate-strings-unchecked
 slice-aggregate-strings-unchecked c = search needs
@@ -24,21 +19,23 @@ slice-aggregate-strings-unchecked c = search needs
 strings-unchecked-requires : tie.Need-strings-unchecked-requires
 strings-unchecked-requires c κs = search needs
 
-look-requires : tie.Need-look-requires
-look-requires c κs =
+look-sought-requires : tie.Need-look-sought-requires
+look-sought-requires c κs =
     let s = c .before .before .before .before .before .before .before .before .before in
-    (s .pre .0 .0, s .pre .0 .1, strings-held (ofBytes side (s .args .mx .now)) (ofBytes side (s .args .my .now)) (c .before .before .before .strings-unchecked .last .1 .1 .0) (c .before .before .before .strings-unchecked .ensures))
+    let u = c .before .before .before .strings-unchecked in
+    (s .pre .0 .0, s .pre .0 .1, strings-held (ofBytes side (s .args .mx .now)) (ofBytes side (s .args .my .now)) (u .last .1 .1 .0) (u .ensures))
 
 same-length : tie.Need-same-length
 same-length c = search needs
 
 returns : tie.Need-returns
 returns c =
-    let s = c .before .before .before .before .before .before .before .before .before .before .before .before in
-    let l = s .args .out .now in
-    let strings = c .before .before .before .before .before .before .strings-unchecked .last .1 .1 .0 in
-    let same = strings-at (ofBytes side (s .args .mx .now)) (ofBytes side (s .args .my .now)) strings (c .before .before .before .before .before .before .strings-unchecked .ensures) in
-    subst (λ (o : Lookup). Leaves o l (c .before .before .look .result) (c .before .before .look .last .1 .1 .1 .0)) (walked-same qubits (at strings) (f s) same (entry (s .args .table .now)) (s .args .p) (length l)) (c .before .before .look .ensures)
+    let a = c .before .before .before .before .before .before .before .before .before .before .before .before .args in
+    let l = a .out .now in
+    let u = c .before .before .before .before .before .before .strings-unchecked in
+    let f = nativeString side (ofBytes side (a .mx .now)) (ofBytes side (a .my .now)) in
+    let same = strings-at (ofBytes side (a .mx .now)) (ofBytes side (a .my .now)) (u .last .1 .1 .0) (u .ensures) in
+    subst (λ (o : Lookup). Leaves o l (c .before .before .look-sought .result) (c .before .before .look-sought .last .1 .1 .1 .1 .0)) (sought-same qubits (at (u .last .1 .1 .0)) f same (a .any) (entry (a .table .now)) (a .p) (length l)) (c .before .before .look-sought .ensures)
 
 pub look-pair-spec : {M : Type 1} → statement M
 look-pair-spec =
@@ -46,6 +43,6 @@ look-pair-spec =
     (tie.spec
     slice-aggregate-strings-unchecked
     strings-unchecked-requires
-    look-requires
+    look-sought-requires
     same-length
     returns)
