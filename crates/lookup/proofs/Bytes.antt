@@ -22,7 +22,7 @@ two-stores l j a b vs =
     ∙ set-sets (set l j a) (suc (suc j)) (suc j) b vs (omega arith)
 
 -- number n in front of the numbers from place i + 1 on
-pub written-next : (l : List ℕ) (i n : ℕ) (ns : List ℕ)
+written-next : (l : List ℕ) (i n : ℕ) (ns : List ℕ)
     → set (set (sets l (2 * (i + 1)) (twoBytes ns)) (2 * i) (n % 256)) (2 * i + 1) (n / 256) ≡ sets l (2 * i) (twoBytes (n ∷ ns))
 unfolding twoBytes
 written-next l i n ns =

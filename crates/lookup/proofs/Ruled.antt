@@ -10,7 +10,6 @@ use native.Mathlib.Decide.{ℕ-discrete}
 use borrow.Author.Tests.{eq-eqb}
 use Rattle.bicycle_common.specs.declared.Pauli.{Pauli}
 use Rattle.bicycle_common.specs.declared.Pauli.the-variants.{I, X, Z, Y}
-use Rattle.bicycle_common.specs.declared.Refusal.the-variants.{NoEntry}
 use Rattle.bicycle_common.specs.declared.Outcome.the-variants.{Done}
 use Rattle.bicycle_common.specs.Ranges.{listFrom, listed}
 use Rattle.pauli_string.specs.Strings.{blank, hasPivot, letterAt}
@@ -27,9 +26,9 @@ use Rattle.table.specs.Plans.{Nonzero}
 use Rattle.table.specs.Answers.{given}
 use Rattle.table.proofs.Rules.{native-or-none, rule-valid}
 use Rattle.lookup.specs.Walks.{named, next, down, good, sound, best, candidate}
-use Rattle.lookup.specs.Answers.{refusing, planBy, planned, walked, exact, pivotFree}
+use Rattle.lookup.specs.Answers.{planBy, planned, walked, exact, pivotFree}
 use Rattle.lookup.proofs.Walks.{down-none, At, good-all, sound-none, sound-some, best-of}
-use Rattle.lookup.proofs.Answers.{found-fits, walked-none, walked-good, best-walked, is-sought, exact-allowed, free-allowed}
+use Rattle.lookup.proofs.Answers.{found-fits, walked-good, best-walked, is-sought, exact-allowed, free-allowed}
 
 module _ (q : ℕ) (f e : ℕ → ℕ) (small : (n : ℕ) → f n < 4 ^ q) (ok : (p : ℕ) → p < 4 ^ q → Rule q f e p) where
   -- a string of depth above 0 is no native
@@ -74,7 +73,7 @@ module _ (q : ℕ) (f e : ℕ → ℕ) (small : (n : ℕ) → f n < 4 ^ q) (ok :
             rw (eq-eqb (depth (e x)) (depth (e p) - k) d) (rule-valid q f e x (ok x (r .0 .below)) (r .0 .some) (r .1))
 
   -- and every string is sound
-  pub rule-sound : (x : ℕ) → Nonzero q x → sound q f e x ≡ true
+  rule-sound : (x : ℕ) → Nonzero q x → sound q f e x ≡ true
   rule-sound x i = elim (ℕ-discrete (e x) 0) [
     | yes z ↦ sound-none q f e x z
     | no h ↦ sound-some q f e x h ∙ rule-good x i h
@@ -124,10 +123,6 @@ module _ (q s : ℕ) (t mx my : List ℕ) (p room : ℕ) (g : given q s t mx my 
   pub exact-walked : Nonzero q p → exact q s t mx my p room ≡ walked q strings (entry t) p room
   exact-walked i = is-sought false q s t mx my p room g (is-string q p (i .below)) (exact-allowed q p (i .some))
 
-  -- a string without an entry gets 7
-  pub exact-none : Nonzero q p → entry t p ≡ 0 → exact q s t mx my p room ≡ refusing NoEntry
-  exact-none i z = exact-walked i ∙ walked-none q strings (entry t) p room z
-
   module _ (small : (n : ℕ) → strings n < 4 ^ q) (ok : (x : ℕ) → x < 4 ^ q → Rule q strings (entry t) x) where
     pub exact-planned : Nonzero q p → Has (entry t) p → 2 * depth (entry t p) ≤ room → exact q s t mx my p room ≡ planned q strings (entry t) p
     exact-planned i h l =
@@ -148,9 +143,6 @@ module _ (q s : ℕ) (t mx my : List ℕ) (p room : ℕ) (g : given q s t mx my 
           (rule-sound q strings (entry t) small ok (candidate q p X) (c .with-x))
           (rule-sound q strings (entry t) small ok (candidate q p Z) (c .with-z))
           (rule-sound q strings (entry t) small ok (candidate q p Y) (c .with-y))
-
-      pub free-none : entry t winner ≡ 0 → pivotFree q s t mx my p room ≡ refusing NoEntry
-      free-none z = free-walked ∙ walked-none q strings (entry t) winner room z
 
       pub free-planned : Has (entry t) winner → 2 * depth (entry t winner) ≤ room → pivotFree q s t mx my p room ≡ planned q strings (entry t) winner
       free-planned h l =

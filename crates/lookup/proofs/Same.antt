@@ -63,7 +63,7 @@ module _ (q : ℕ) (f g : ℕ → ℕ) (h : (n : ℕ) → n < natives → f n �
         ap (λ (x : ℕ). stands q f (e x) (depth (e p) - k) x) (down-same k s)
         ∙ ap (λ (b : Bool). eqb (depth (e (down q g e p k))) (depth (e p) - k) && b) (valid-same (e (down q g e p k)) (down q g e p k))
 
-    pub good-same : good q f e p ≡ good q g e p
+    good-same : good q f e p ≡ good q g e p
     unfolding good
     good-same = all-led (depth (e p) + 1) (At q f e p) (At q g e p) (λ k l s. at-same k s)
 
@@ -76,7 +76,7 @@ module _ (q : ℕ) (f g : ℕ → ℕ) (h : (n : ℕ) → n < natives → f n �
           listed-all (rotationAt q g e p) 0 (rotations q f e p) (depth (e p)) (length-from (rotationAt q f e p) 0 (depth (e p)))
           (λ i l. listed-at (rotationAt q f e p) 0 (depth (e p)) i l ∙ ap (λ (x : ℕ). named (e x)) (place-same (depth (e p) - 1 - i) (omega arith)))
 
-      pub found-same : (room : ℕ) → found q f e p room ≡ found q g e p room
+      found-same : (room : ℕ) → found q f e p room ≡ found q g e p room
       found-same room =
           ap (λ (o : Lookup). cond (ltb room (2 * depth (e p))) (refusing (Room (2 * depth (e p)))) o)
           (ap₂ (λ (x : ℕ) (ns : List ℕ). planBy x (named (e x)) (depth (e p)) p ns) (place-same (depth (e p)) (omega arith)) rotations-same)

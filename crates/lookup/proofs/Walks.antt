@@ -80,7 +80,7 @@ module _ (q : ℕ) (f e : ℕ → ℕ) (p : ℕ) where
   unfolding down
   down-none = refl
 
-  pub down-next : (k : ℕ) → down q f e p (k + 1) ≡ leads q f (down q f e p k) (named (e (down q f e p k)))
+  down-next : (k : ℕ) → down q f e p (k + 1) ≡ leads q f (down q f e p k) (named (e (down q f e p k)))
   unfolding down next
   down-next k = rw add-one
 
@@ -172,7 +172,7 @@ module _ (e : ℕ → ℕ) (a b : ℕ) where
   better-of P ha hb = chosen-of P (eqb (e a) 0) (eqb (e b) 0) (ltb (depth (e b)) (depth (e a))) ha hb
 
   -- where one of the two has an entry, it has one, and no more rotations
-  pub better-least-first : (e a ≡ 0 → ⊥) → (e (better e a b) ≡ 0 → ⊥) × (depth (e (better e a b)) ≤ depth (e a))
+  better-least-first : (e a ≡ 0 → ⊥) → (e (better e a b) ≡ 0 → ⊥) × (depth (e (better e a b)) ≤ depth (e a))
   better-least-first h = elim (ℕ-discrete (e b) 0) [
     | yes z ↦ subst Least (sym (better-first h z)) (h, omega arith)
     | no k ↦ elim (decLt (depth (e b)) (depth (e a))) [
@@ -184,7 +184,7 @@ module _ (e : ℕ → ℕ) (a b : ℕ) where
       Least : ℕ → Type 0
       Least x = (e x ≡ 0 → ⊥) × (depth (e x) ≤ depth (e a))
 
-  pub better-least-second : (e b ≡ 0 → ⊥) → (e (better e a b) ≡ 0 → ⊥) × (depth (e (better e a b)) ≤ depth (e b))
+  better-least-second : (e b ≡ 0 → ⊥) → (e (better e a b) ≡ 0 → ⊥) × (depth (e (better e a b)) ≤ depth (e b))
   better-least-second k = elim (ℕ-discrete (e a) 0) [
     | yes z ↦ subst Least (sym (better-second z)) (k, omega arith)
     | no h ↦ elim (decLt (depth (e b)) (depth (e a))) [
