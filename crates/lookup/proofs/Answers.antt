@@ -13,10 +13,10 @@ use Rattle.pauli_string.specs.Strings.{isString, hasPivot}
 use Rattle.measurement.specs.Matrices.{ofBytes}
 use Rattle.measurement.specs.Measures.{nativeString}
 use Rattle.table.specs.Bytes.{entry}
-use Rattle.table.specs.Entries.{depth}
+use Rattle.table.specs.Entries.{depth, named}
 use Rattle.table.specs.Answers.{given}
 use Rattle.lookup.specs.declared.LookupAnswer.the-variants.{Refused}
-use Rattle.lookup.specs.Walks.{named, good, bottom, rotations, sound, best}
+use Rattle.lookup.specs.Walks.{good, bottom, rotations, sound, best}
 use Rattle.lookup.specs.Answers.{twoBytes, Lookup, refusing, Leaves, planBy, planned, found, walked, bestOf, wherePassed, allowed, sought, lookedUp}
 
 -- a refusal leaves the buffer as it was

@@ -20,12 +20,12 @@ use Rattle.measurement.specs.Matrices.{ofBytes}
 use Rattle.measurement.specs.Measures.{nativeString}
 use Rattle.shortest.specs.Graphs.{Has}
 use Rattle.table.specs.Bytes.{entry}
-use Rattle.table.specs.Entries.{depth, KeptFor, leads}
+use Rattle.table.specs.Entries.{depth, KeptFor, leads, named}
 use Rattle.table.specs.Rules.{Deep, Rule}
 use Rattle.table.specs.Plans.{Nonzero}
 use Rattle.table.specs.Answers.{given}
 use Rattle.table.proofs.Rules.{native-or-none, rule-valid}
-use Rattle.lookup.specs.Walks.{named, next, down, good, sound, best, candidate}
+use Rattle.lookup.specs.Walks.{next, down, good, sound, best, candidate}
 use Rattle.lookup.specs.Answers.{planBy, planned, walked, exact, pivotFree}
 use Rattle.lookup.proofs.Walks.{down-none, At, good-all, sound-none, sound-some, best-of}
 use Rattle.lookup.proofs.Answers.{found-fits, walked-good, best-walked, is-sought, exact-allowed, free-allowed}

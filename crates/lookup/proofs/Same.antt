@@ -14,8 +14,8 @@ use Rattle.bicycle_common.proofs.Ranges.{length-from, listed-at, listed-all}
 use Rattle.pauli_string.specs.Strings.{hasPivot, rotate}
 use Rattle.native_measurement.specs.Natives.{natives}
 use Rattle.natives.proofs.Kept.{kept-same}
-use Rattle.table.specs.Entries.{depth, field, valid}
-use Rattle.lookup.specs.Walks.{named, stands, next, down, good, rotationAt, rotations, sound, best, candidate}
+use Rattle.table.specs.Entries.{depth, field, valid, named}
+use Rattle.lookup.specs.Walks.{stands, next, down, good, rotationAt, rotations, sound, best, candidate}
 use Rattle.lookup.specs.Answers.{Lookup, refusing, planBy, found, walked, bestOf, sought}
 use Rattle.lookup.proofs.Walks.{stands-valid, valid-none, valid-over, valid-in, At, all-hold, good-at}
 

@@ -15,9 +15,9 @@ use Rattle.pauli_string.proofs.Pivot.{rotate-rotate}
 use Rattle.measurement.specs.Matrices.{ofBytes}
 use Rattle.measurement.specs.Measures.{nativeString}
 use Rattle.table.specs.Bytes.{entry}
-use Rattle.table.specs.Entries.{depth, KeptFor, Rotation, leads}
+use Rattle.table.specs.Entries.{depth, KeptFor, Rotation, leads, named}
 use Rattle.table.specs.Plans.{applied, All}
-use Rattle.lookup.specs.Walks.{named, next, down, good, bottom, rotationAt, best, candidate}
+use Rattle.lookup.specs.Walks.{next, down, good, bottom, rotationAt, best, candidate}
 use Rattle.lookup.specs.Answers.{planned, walked, exact, pivotFree}
 use Rattle.lookup.specs.Truth.{Truly}
 use Rattle.lookup.proofs.Walks.{Valid, stands-valid, good-at}

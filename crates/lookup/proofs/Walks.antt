@@ -14,8 +14,8 @@ use Rattle.pauli_string.specs.Strings.{hasPivot}
 use Rattle.pauli_string.proofs.Pivot.{rotate-string}
 use Rattle.native_measurement.specs.Natives.{natives}
 use Rattle.natives.specs.Kept.{kept}
-use Rattle.table.specs.Entries.{depth, field, leads, valid, validBy}
-use Rattle.lookup.specs.Walks.{named, stands, next, down, good, sound, better, best}
+use Rattle.table.specs.Entries.{depth, field, leads, valid, validBy, named}
+use Rattle.lookup.specs.Walks.{stands, next, down, good, sound, better, best}
 
 -- ---- valid entries
 

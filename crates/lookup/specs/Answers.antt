@@ -16,12 +16,12 @@ use Rattle.pauli_string.specs.Strings.{isString, hasPivot}
 use Rattle.measurement.specs.Matrices.{ofBytes}
 use Rattle.measurement.specs.Measures.{nativeString}
 use Rattle.table.specs.Bytes.{entry}
-use Rattle.table.specs.Entries.{depth}
+use Rattle.table.specs.Entries.{depth, named}
 use Rattle.table.specs.Answers.{given}
 use Rattle.lookup.specs.declared.LookupAnswer.{LookupAnswer}
 use Rattle.lookup.specs.declared.LookupAnswer.the-variants.{Is, Refused}
 use Rattle.lookup.specs.declared.MeasurementImpl.{MeasurementImpl}
-use Rattle.lookup.specs.Walks.{named, good, bottom, rotations, sound, best, candidate}
+use Rattle.lookup.specs.Walks.{good, bottom, rotations, sound, best, candidate}
 
 -- the string measured, the base's native number and its string, the count of rotations
 abbrev pub toldLookup : LookupAnswer → Told

@@ -7,11 +7,7 @@ use lib.Dec.{eqb, ltb}
 use Rattle.bicycle_common.specs.declared.Pauli.{Pauli}
 use Rattle.bicycle_common.specs.Ranges.{allBelow, listed}
 use Rattle.pauli_string.specs.Strings.{setLetter}
-use Rattle.table.specs.Entries.{depth, field, leads, valid}
-
--- the native that the field of a value names
-abbrev pub named : ℕ → ℕ
-named v = field v - 1
+use Rattle.table.specs.Entries.{depth, named, leads, valid}
 
 -- the value v is a valid entry for x, of depth d
 abbrev pub stands : ℕ → (ℕ → ℕ) → ℕ → ℕ → ℕ → Bool

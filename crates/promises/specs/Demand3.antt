@@ -15,14 +15,14 @@ use Rattle.pauli_string.specs.Strings.{qubits, hasPivot}
 use Rattle.measurement.specs.Matrices.{side}
 use Rattle.shortest.specs.Graphs.{Has}
 use Rattle.table.specs.Bytes.{entry}
-use Rattle.table.specs.Entries.{depth}
+use Rattle.table.specs.Entries.{depth, named}
 use Rattle.table.specs.Plans.{Nonzero, Gives}
 use Rattle.table.proofs.Answers.{is-given}
 use Rattle.table.proofs.Plans.{sequence-reaches}
 use Rattle.lookup.specs.declared.LookupAnswer.{LookupAnswer}
 use Rattle.lookup.specs.declared.LookupAnswer.the-variants.{Is}
 use Rattle.lookup.specs.declared.MeasurementImpl.{MeasurementImpl}
-use Rattle.lookup.specs.Walks.{named, bottom, rotationAt, rotations, best, candidate}
+use Rattle.lookup.specs.Walks.{bottom, rotationAt, rotations, best, candidate}
 use Rattle.lookup.specs.Answers.{twoBytes, Lookup, Leaves, implBy, planned, exact, pivotFree}
 use Rattle.lookup.specs.Truth.{Implements, Truly}
 use Rattle.lookup.proofs.Walks.{best-of, best-least-first, best-least-second, best-least-third}

@@ -21,7 +21,7 @@ use Rattle.measurement.proofs.Strings.{native-one}
 use Rattle.natives.specs.Kept.{keptFor}
 use Rattle.shortest.specs.Graphs.{Has}
 use Rattle.table.specs.Bytes.{entry}
-use Rattle.table.specs.Entries.{depth, Names}
+use Rattle.table.specs.Entries.{depth, Names, named}
 use Rattle.table.specs.Plans.{Nonzero}
 use Rattle.table.specs.Answers.{isTable, given}
 use Rattle.table.proofs.Rules.{kept-for}
@@ -29,7 +29,7 @@ use Rattle.table.proofs.Answers.{is-given}
 use Rattle.lookup.specs.declared.LookupAnswer.{LookupAnswer}
 use Rattle.lookup.specs.declared.LookupAnswer.the-variants.{Is}
 use Rattle.lookup.specs.declared.MeasurementImpl.{MeasurementImpl}
-use Rattle.lookup.specs.Walks.{named, rotations, better, best, candidate, good, sound}
+use Rattle.lookup.specs.Walks.{rotations, better, best, candidate, good, sound}
 use Rattle.lookup.specs.Answers.{toldLookup, twoBytes, Lookup, Leaves, planBy, planned, found, walked, exact, pivotFree, free, refusing}
 use Rattle.lookup.specs.Truth.{Implements, AnswersTruly, Truly}
 use Rattle.lookup.proofs.Walks.{better-native, sound-none, sound-some, better-second}

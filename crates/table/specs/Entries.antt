@@ -21,6 +21,10 @@ field v = v % 1024
 abbrev pub Names : ℕ → ℕ → Type 0
 Names v n = field v ≡ n + 1
 
+-- the native that the field names, where it names one
+abbrev pub named : ℕ → ℕ
+named v = field v - 1
+
 -- the value of depth d that names native n
 unfoldable pub value : ℕ → ℕ → ℕ
 value d n = 1024 * d + (n + 1)
@@ -62,4 +66,4 @@ validBy q f v p n = kept f n && cond (eqb (depth v) 0) (eqb (f n) p) (hasPivot q
 -- The nonzero value v is a valid entry for the nonzero string p: its field is n + 1 for a kept native n; at depth 0 that native's string is p
 -- itself; at a depth above 0 it has pivot support.
 abbrev pub valid : ℕ → (ℕ → ℕ) → ℕ → ℕ → Bool
-valid q f v p = cond (ltb 0 (field v) && ltb (field v) (natives + 1)) (validBy q f v p (field v - 1)) false
+valid q f v p = cond (ltb 0 (field v) && ltb (field v) (natives + 1)) (validBy q f v p (named v)) false

@@ -8,8 +8,8 @@ use Rattle.bicycle_common.specs.declared.Refusal.the-variants.{Room}
 use Rattle.pauli_string.specs.Strings.{qubits}
 use Rattle.natives.specs.Arrays.{at}
 use Rattle.table.specs.Bytes.{entry}
-use Rattle.table.specs.Entries.{depth}
-use Rattle.lookup.specs.Walks.{named, bottom, rotations}
+use Rattle.table.specs.Entries.{depth, named}
+use Rattle.lookup.specs.Walks.{bottom, rotations}
 use Rattle.lookup.specs.Answers.{Lookup, Leaves, refusing, planBy, found}
 use Rattle.lookup.proofs.Walks.{Valid, stands-valid, down-string, good-at}
 use Rattle.lookup.proofs.Answers.{refuses, found-short, found-fits, plans}

@@ -11,8 +11,8 @@ use Rattle.bicycle_common.specs.Ranges.{listFrom}
 use Rattle.pauli_string.specs.Strings.{qubits}
 use Rattle.natives.specs.Arrays.{at as string}
 use Rattle.table.specs.Bytes.{entry}
-use Rattle.table.specs.Entries.{depth}
-use Rattle.lookup.specs.Walks.{named, down, rotationAt}
+use Rattle.table.specs.Entries.{depth, named}
+use Rattle.lookup.specs.Walks.{down, rotationAt}
 use Rattle.lookup.specs.Answers.{twoBytes}
 use Rattle.lookup.proofs.Walks.{Valid, stands-valid, down-none, down-step, down-string, good-at}
 use Rattle.lookup.proofs.Bytes.{writtenFrom, written-none, written-more}
