@@ -17,7 +17,6 @@ use Rattle.shortest.specs.Graphs.{Has}
 use Rattle.table.specs.Bytes.{entry}
 use Rattle.table.specs.Entries.{depth, named}
 use Rattle.table.specs.Plans.{Nonzero, Gives}
-use Rattle.table.proofs.Answers.{is-given}
 use Rattle.table.proofs.Plans.{sequence-reaches}
 use Rattle.lookup.specs.declared.LookupAnswer.{LookupAnswer}
 use Rattle.lookup.specs.declared.LookupAnswer.the-variants.{Is}
@@ -28,7 +27,7 @@ use Rattle.lookup.specs.Truth.{Implements, Truly}
 use Rattle.lookup.proofs.Walks.{best-of, best-least-first, best-least-second, best-least-third}
 use Rattle.lookup.proofs.Truth.{exact-true, pivot-free-true}
 use Rattle.lookup.proofs.Ruled.{candidate-nonzero, candidates, exact-planned, free-planned}
-use Rattle.promises.specs.Checks.{stringOf, BuiltOrAccepted, Ruled, small, ruled-table}
+use Rattle.promises.specs.Checks.{pairString, BuiltOrAccepted, Ruled, small, ruled-table}
 
 -- The answer r, and the buffer that was `before` and is `after` now, hold a shortest plan for p: a kept native and kept natives with pivot
 -- support which, pivots blanked, applied in order to the base, give p; and no shorter sequence of natives with pivot support, kept or not,
@@ -38,8 +37,8 @@ pub record ShortestPlan (mx my : List ℕ) (p : ℕ) (before : List ℕ) (r : Lo
   pub rotations : List ℕ
   pub answer : r ≡ Is plan
   pub buffer : after ≡ sets before 0 (twoBytes rotations)
-  pub implements : Implements qubits (stringOf mx my) plan rotations p
-  pub no-shorter : (b : ℕ) (ns : List ℕ) → Gives qubits (stringOf mx my) b ns p → length rotations ≤ length ns
+  pub implements : Implements qubits (pairString mx my) plan rotations p
+  pub no-shorter : (b : ℕ) (ns : List ℕ) → Gives qubits (pairString mx my) b ns p → length rotations ≤ length ns
 
 -- what demand 3 asks of a table and a nonzero string
 pub record Demand3 (mx my t : List ℕ) (p : ℕ) : Type 0 where
@@ -47,7 +46,7 @@ pub record Demand3 (mx my t : List ℕ) (p : ℕ) : Type 0 where
   pub entry-is-planned : Has (entry t) p → (before : List ℕ) → 2 * depth (entry t p) ≤ length before → (r : LookupAnswer) (after : List ℕ)
       → Leaves (exact qubits side t mx my p (length before)) before r after → ShortestPlan mx my p before r after
   -- without an entry: no sequence gives it
-  pub without-entry : entry t p ≡ 0 → (b : ℕ) (ns : List ℕ) → Gives qubits (stringOf mx my) b ns p → ⊥
+  pub without-entry : entry t p ≡ 0 → (b : ℕ) (ns : List ℕ) → Gives qubits (pairString mx my) b ns p → ⊥
 
 -- ---- the same without the pivot
 
@@ -58,7 +57,7 @@ chosen t p = best (entry t) (candidate qubits p X) (candidate qubits p Z) (candi
 -- a shortest plan for the chosen candidate, and no sequence for p with any letter on the pivot is shorter
 pub record BestPlan (mx my t : List ℕ) (p : ℕ) (before : List ℕ) (r : LookupAnswer) (after : List ℕ) : Type 0 where
   pub shortest : ShortestPlan mx my (chosen t p) before r after
-  pub no-letter-shorter : (l : Pauli) → (l ≡ I → ⊥) → (b : ℕ) (ns : List ℕ) → Gives qubits (stringOf mx my) b ns (candidate qubits p l)
+  pub no-letter-shorter : (l : Pauli) → (l ≡ I → ⊥) → (b : ℕ) (ns : List ℕ) → Gives qubits (pairString mx my) b ns (candidate qubits p l)
       → length (shortest .rotations) ≤ length ns
 
 pub record PivotFree3 (mx my t : List ℕ) (p : ℕ) : Type 0 where
@@ -66,16 +65,16 @@ pub record PivotFree3 (mx my t : List ℕ) (p : ℕ) : Type 0 where
   pub entry-is-planned : Has (entry t) (chosen t p) → (before : List ℕ) → 2 * depth (entry t (chosen t p)) ≤ length before → (r : LookupAnswer)
       (after : List ℕ) → Leaves (pivotFree qubits side t mx my p (length before)) before r after → BestPlan mx my t p before r after
   -- if it has none, no sequence gives p with any letter on the pivot
-  pub without-entry : entry t (chosen t p) ≡ 0 → (l : Pauli) → (l ≡ I → ⊥) → (b : ℕ) (ns : List ℕ) → Gives qubits (stringOf mx my) b ns (candidate qubits p l) → ⊥
+  pub without-entry : entry t (chosen t p) ≡ 0 → (l : Pauli) → (l ≡ I → ⊥) → (b : ℕ) (ns : List ℕ) → Gives qubits (pairString mx my) b ns (candidate qubits p l) → ⊥
 
 -- ---- the theorems
 
 -- a lookup that answers the plan of the walk from p, truly, answers a shortest plan where no sequence is shorter than the depth of p
 abbrev planned-shortest : (mx my t : List ℕ) (p : ℕ) (before : List ℕ) (r : LookupAnswer) (after : List ℕ) (o : Lookup) → Leaves o before r after
-    → o ≡ planned qubits (stringOf mx my) (entry t) p → Truly qubits (stringOf mx my) p o
-    → ((b : ℕ) (ns : List ℕ) → Gives qubits (stringOf mx my) b ns p → depth (entry t p) ≤ length ns) → ShortestPlan mx my p before r after
+    → o ≡ planned qubits (pairString mx my) (entry t) p → Truly qubits (pairString mx my) p o
+    → ((b : ℕ) (ns : List ℕ) → Gives qubits (pairString mx my) b ns p → depth (entry t p) ≤ length ns) → ShortestPlan mx my p before r after
 planned-shortest mx my t p before r after o w z true-plan least =
-    let f = stringOf mx my in
+    let f = pairString mx my in
     let e = entry t in
     let m : MeasurementImpl = implBy (bottom qubits f e p) (named (e (bottom qubits f e p))) (depth (e p)) p in
     record {
@@ -89,7 +88,7 @@ planned-shortest mx my t p before r after o w z true-plan least =
 
 module _ (mx my t : List ℕ) (ok : BuiltOrAccepted mx my t) where
   abbrev f : ℕ → ℕ
-  f = stringOf mx my
+  f = pairString mx my
 
   ready : Ruled mx my t
   ready = ruled-table mx my t ok
@@ -99,7 +98,7 @@ module _ (mx my t : List ℕ) (ok : BuiltOrAccepted mx my t) where
 
   pub demand-3 : (p : ℕ) → Nonzero qubits p → Demand3 mx my t p
   demand-3 p i = record {
-    entry-is-planned = λ h before room r after w. shortest h before room r after w;
+    entry-is-planned = shortest;
     without-entry = λ z b ns g. reaches b ns p g (i .some) .0 z;
   }
     where

@@ -25,7 +25,6 @@ use Rattle.table.specs.Entries.{depth, Names, named}
 use Rattle.table.specs.Plans.{Nonzero}
 use Rattle.table.specs.Answers.{isTable, given}
 use Rattle.table.proofs.Rules.{kept-for}
-use Rattle.table.proofs.Answers.{is-given}
 use Rattle.lookup.specs.declared.LookupAnswer.{LookupAnswer}
 use Rattle.lookup.specs.declared.LookupAnswer.the-variants.{Is}
 use Rattle.lookup.specs.declared.MeasurementImpl.{MeasurementImpl}
@@ -36,7 +35,7 @@ use Rattle.lookup.proofs.Walks.{better-native, sound-none, sound-some, better-s
 use Rattle.lookup.proofs.Answers.{found-short, found-fits, walked-none, walked-good, walked-bad, best-walked, not-given, not-string, not-allowed, is-sought, exact-not, free-not, free-allowed}
 use Rattle.lookup.proofs.Truth.{exact-true, pivot-free-true}
 use Rattle.lookup.proofs.Ruled.{rule-good, planned-native, exact-walked, free-walked, free-planned}
-use Rattle.promises.specs.Checks.{stringOf, BuiltOrAccepted, Ruled, small, ruled-table}
+use Rattle.promises.specs.Checks.{pairString, BuiltOrAccepted, Ruled, small, ruled-table}
 use Rattle.promises.specs.Demand3.{chosen, chosen-nonzero}
 
 -- ---- on any table
@@ -44,14 +43,14 @@ use Rattle.promises.specs.Demand3.{chosen, chosen-nonzero}
 -- m, with natives in front of the buffer, is a true plan for p: kept natives which, pivots blanked, applied in order to the base, give p
 pub record TruePlan (mx my : List ℕ) (p : ℕ) (before : List ℕ) (m : MeasurementImpl) (after : List ℕ) : Type 0 where
   pub rotations : List ℕ
-  pub implements : Implements qubits (stringOf mx my) m rotations p
+  pub implements : Implements qubits (pairString mx my) m rotations p
   pub buffer : after ≡ sets before 0 (twoBytes rotations)
 
 module _ (mx my t : List ℕ) (p : ℕ) (before : List ℕ) (m : MeasurementImpl) (after : List ℕ) where
-  true-plan : (x : ℕ) (o : Lookup) → Truly qubits (stringOf mx my) x o → Leaves o before (Is m) after → TruePlan mx my x before m after
+  true-plan : (x : ℕ) (o : Lookup) → Truly qubits (pairString mx my) x o → Leaves o before (Is m) after → TruePlan mx my x before m after
   true-plan x o h w = record {
     rotations = o .written;
-    implements = subst (AnswersTruly qubits (stringOf mx my) x (o .written)) (sym (w .answer)) h;
+    implements = subst (AnswersTruly qubits (pairString mx my) x (o .written)) (sym (w .answer)) h;
     buffer = w .buffer;
   }
 
@@ -74,7 +73,7 @@ numbered n z other e = other (sym (ap (λ (x : Lookup). toldLookup (x .answer) .
 
 module _ (mx my t : List ℕ) (ok : BuiltOrAccepted mx my t) where
   abbrev f : ℕ → ℕ
-  f = stringOf mx my
+  f = pairString mx my
 
   ready : Ruled mx my t
   ready = ruled-table mx my t ok
@@ -143,7 +142,7 @@ module _ (mx my t : List ℕ) (ok : BuiltOrAccepted mx my t) where
 
 module _ (mx my t : List ℕ) (p room : ℕ) where
   abbrev strings : ℕ → ℕ
-  strings = stringOf mx my
+  strings = pairString mx my
 
   -- what a caller is told by the exact lookup, and by the pivot-free one
   abbrev exactly : Told
