@@ -1,9 +1,9 @@
--- `bicycle::flat` meets its contract, case by case. Assumes nothing.
+-- `bicycle::flat_build` meets its contract, case by case. Assumes nothing.
 use borrow.Author.Needs.{needs}
 use mathlib.Core.Path.{sym, ap, _∙_}
-use Rattle.bicycle.specs.Flat.{refusal, flat}
-use Rattle.bicycle.proofs.flat.Statement.{statement}
-use Rattle.bicycle.proofs.flat.Tie as tie
+use Rattle.bicycle.specs.Flat.{buildRefusal, flatBuild}
+use Rattle.bicycle.proofs.flat_build.Statement.{statement}
+use Rattle.bicycle.proofs.flat_build.Tie as tie
 
 enum-known-a : tie.Need-enum-known-a
 enum-known-a c = search needs
@@ -18,11 +18,11 @@ cast-t6 : tie.Need-cast-t6
 cast-t6 c = search needs
 
 returns : tie.Need-returns
-returns c = ap flat (sym (c .before .a .given .1))
+returns c = ap flatBuild (sym (c .before .a .given .1))
 
 returns-2 : tie.Need-returns-2
-returns-2 c = ap refusal (c .number .ensures) ∙ ap flat (sym (c .before .before .a2 .given .1))
+returns-2 c = ap buildRefusal (c .number .ensures) ∙ ap flatBuild (sym (c .before .before .a2 .given .1))
 
-pub flat-spec : {M : Type 1} → statement M
-flat-spec =
+pub flat-build-spec : {M : Type 1} → statement M
+flat-build-spec =
     tie.close (tie.spec enum-known-a enum-known-a-2 number-requires cast-t6 returns returns-2)

@@ -1,0 +1,43 @@
+-- `bicycle::flat_check` meets its contract, case by case. Assumes nothing.
+use borrow.Author.Needs.{needs}
+use mathlib.Core.Path.{sym, ap, _∙_}
+use Rattle.bicycle.specs.Flat.{checkRefusal, flatCheck}
+use Rattle.bicycle.proofs.flat_check.Statement.{statement}
+use Rattle.bicycle.proofs.flat_check.Tie as tie
+
+enum-told : tie.Need-enum-told
+enum-told c = search needs
+
+enum-known-a : tie.Need-enum-known-a
+enum-known-a c = search needs
+
+enum-known-a-2 : tie.Need-enum-known-a-2
+enum-known-a-2 c = search needs
+
+number-requires : tie.Need-number-requires
+number-requires c κs = search needs
+
+cast-t6 : tie.Need-cast-t6
+cast-t6 c = search needs
+
+returns : tie.Need-returns
+returns c = ap flatCheck (sym (c .enum-told .given .1))
+
+returns-2 : tie.Need-returns-2
+returns-2 c = ap flatCheck (sym (c .before .a .given .1))
+
+returns-3 : tie.Need-returns-3
+returns-3 c = ap checkRefusal (c .number .ensures) ∙ ap flatCheck (sym (c .before .before .a2 .given .1))
+
+pub flat-check-spec : {M : Type 1} → statement M
+flat-check-spec =
+    tie.close
+    (tie.spec
+    enum-told
+    enum-known-a
+    enum-known-a-2
+    number-requires
+    cast-t6
+    returns
+    returns-2
+    returns-3)
