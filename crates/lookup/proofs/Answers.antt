@@ -16,8 +16,8 @@ use Rattle.table.specs.Bytes.{entry}
 use Rattle.table.specs.Entries.{depth, named}
 use Rattle.table.specs.Answers.{given}
 use Rattle.lookup.specs.declared.LookupAnswer.the-variants.{Refused}
-use Rattle.lookup.specs.Walks.{good, bottom, rotations, sound, best}
-use Rattle.lookup.specs.Answers.{twoBytes, Lookup, refusing, Leaves, planBy, planned, found, walked, bestOf, wherePassed, allowed, sought, lookedUp}
+use Rattle.lookup.specs.Walks.{bottom, rotations, missing, judged, winner}
+use Rattle.lookup.specs.Answers.{twoBytes, Lookup, refusing, Leaves, planBy, planned, found, wherePassed, allowed, sought, lookedUp}
 
 -- a refusal leaves the buffer as it was
 pub refuses : (o : Lookup) (r : Refusal) (l : List ℕ) → o ≡ refusing r → Leaves o l (Refused r) l
@@ -31,27 +31,18 @@ module _ (q : ℕ) (f e : ℕ → ℕ) (p room : ℕ) where
   pub found-fits : 2 * depth (e p) ≤ room → found q f e p room ≡ planned q f e p
   found-fits h = rw (le-ltb room (2 * depth (e p)) h)
 
-  pub walked-none : e p ≡ 0 → walked q f e p room ≡ refusing NoEntry
-  walked-none z = rw (eq-eqb (e p) 0 z)
+-- ---- 7, then 8
 
-  pub walked-bad : (e p ≡ 0 → ⊥) → good q f e p ≡ false → walked q f e p room ≡ refusing BadEntry
-  walked-bad h g = rw (ne-eqb (e p) 0 h, g)
+module _ (q : ℕ) (f e : ℕ → ℕ) (any : Bool) (p room : ℕ) where
+  pub sought-none : missing any q e p ≡ true → sought q f e any p room ≡ refusing NoEntry
+  sought-none z = rw z
 
-  pub walked-good : (e p ≡ 0 → ⊥) → good q f e p ≡ true → walked q f e p room ≡ found q f e p room
-  walked-good h g = rw (ne-eqb (e p) 0 h, g)
+  module _ (some : missing any q e p ≡ false) where
+    pub sought-bad : judged any q f e p ≡ false → sought q f e any p room ≡ refusing BadEntry
+    sought-bad z = rw (some, z)
 
-module _ (q : ℕ) (f e : ℕ → ℕ) (x z y room : ℕ) where
-  pub best-first : sound q f e x ≡ false → bestOf q f e x z y room ≡ refusing BadEntry
-  best-first a = rw a
-
-  pub best-second : sound q f e x ≡ true → sound q f e z ≡ false → bestOf q f e x z y room ≡ refusing BadEntry
-  best-second a b = rw (a, b)
-
-  pub best-third : sound q f e x ≡ true → sound q f e z ≡ true → sound q f e y ≡ false → bestOf q f e x z y room ≡ refusing BadEntry
-  best-third a b c = rw (a, b, c)
-
-  pub best-walked : sound q f e x ≡ true → sound q f e z ≡ true → sound q f e y ≡ true → bestOf q f e x z y room ≡ walked q f e (best e x z y) room
-  best-walked a b c = rw (a, b, c)
+    pub sought-found : judged any q f e p ≡ true → sought q f e any p room ≡ found q f e (winner any q e p) room
+    sought-found z = rw (some, z)
 
 -- what is answered of string b, number n and d rotations is the plan, where these are the walk's
 pub plans : (q : ℕ) (f e : ℕ → ℕ) (p b n d : ℕ) (l m : List ℕ) → b ≡ bottom q f e p → n ≡ named (e b) → d ≡ depth (e p)
@@ -66,7 +57,7 @@ plans q f e p b n d l m hb hn hd hm = record {
 module _ (any : Bool) (q s : ℕ) (t mx my : List ℕ) (p room : ℕ) where
   -- what the table decides
   abbrev decided : Lookup
-  decided = sought any q (nativeString s (ofBytes s mx) (ofBytes s my)) (entry t) p room
+  decided = sought q (nativeString s (ofBytes s mx) (ofBytes s my)) (entry t) any p room
 
   -- what follows the tests of the table and the pair
   abbrev asked : Lookup

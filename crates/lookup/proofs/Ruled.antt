@@ -1,21 +1,22 @@
 -- On a table that meets the rules every walk from an entry is good, so that the lookups of a string with an entry are not refused, but for
 -- room. Assumes nothing.
-use mathlib.Core.Path.{_≡_, sym, ap, subst, _∙_}
-use mathlib.Core.Bool.{true, false}
+use mathlib.Core.Path.{_≡_, refl, sym, ap, subst, _∙_}
+use mathlib.Core.Bool.{Bool, true, false, _&&_, and-eq-true-iff}
 use mathlib.Core.Logic.{⊎-elim}
 use mathlib.Core.List.{List, []}
 use Prim.Native.Nat.{ℕ, zero, suc, _+_, _-_, _*_, _^_, _≤_, _<_}
 use native.Mathlib.Omega.{arith}
 use native.Mathlib.Decide.{ℕ-discrete}
-use borrow.Author.Tests.{eq-eqb}
+use lib.Dec.{eqb}
+use borrow.Author.Tests.{eq-eqb, ne-eqb, eqb-true, eqb-false}
 use Rattle.bicycle_common.specs.declared.Pauli.{Pauli}
 use Rattle.bicycle_common.specs.declared.Pauli.the-variants.{I, X, Z, Y}
 use Rattle.bicycle_common.specs.declared.Outcome.the-variants.{Done}
 use Rattle.bicycle_common.specs.Ranges.{listFrom, listed}
 use Rattle.pauli_string.specs.Strings.{blank, hasPivot, letterAt}
 use Rattle.pauli_string.proofs.Pivot.{rotate-string, rotate-nonzero, blank-pivot, blank-le}
-use Rattle.pauli_string.proofs.Places.{set-letter-same, set-letter-lt}
-use Rattle.pauli_string.proofs.Range.{four-pow, is-string}
+use Rattle.pauli_string.proofs.Places.{set-letter-same}
+use Rattle.pauli_string.proofs.Range.{is-string}
 use Rattle.measurement.specs.Matrices.{ofBytes}
 use Rattle.measurement.specs.Measures.{nativeString}
 use Rattle.shortest.specs.Graphs.{Has}
@@ -25,10 +26,10 @@ use Rattle.table.specs.Rules.{Deep, Rule}
 use Rattle.table.specs.Plans.{Nonzero}
 use Rattle.table.specs.Answers.{given}
 use Rattle.table.proofs.Rules.{native-or-none, rule-valid}
-use Rattle.lookup.specs.Walks.{next, down, good, sound, best, candidate}
-use Rattle.lookup.specs.Answers.{planBy, planned, walked, exact, pivotFree}
-use Rattle.lookup.proofs.Walks.{down-none, At, good-all, sound-none, sound-some, best-of}
-use Rattle.lookup.proofs.Answers.{found-fits, walked-good, best-walked, is-sought, exact-allowed, free-allowed}
+use Rattle.lookup.specs.Walks.{next, down, good, sound, candidate, missing, judged, winner}
+use Rattle.lookup.specs.Answers.{planBy, planned, allowed, sought, lookedUp}
+use Rattle.lookup.proofs.Walks.{down-none, At, good-all, sound-none, sound-some, best-of, candidate-string}
+use Rattle.lookup.proofs.Answers.{found-fits, sought-found, is-sought, exact-allowed, free-allowed}
 
 module _ (q : ℕ) (f e : ℕ → ℕ) (small : (n : ℕ) → f n < 4 ^ q) (ok : (p : ℕ) → p < 4 ^ q → Rule q f e p) where
   -- a string of depth above 0 is no native
@@ -79,12 +80,12 @@ module _ (q : ℕ) (f e : ℕ → ℕ) (small : (n : ℕ) → f n < 4 ^ q) (ok :
     | no h ↦ sound-some q f e x h ∙ rule-good x i h
   ]
 
--- ---- candidates
+-- ---- what may be asked
 
 -- with a letter on the pivot no string is the identity
 pub candidate-nonzero : (q p : ℕ) (l : Pauli) → 0 < q → p < 4 ^ q → (l ≡ I → ⊥) → Nonzero q (candidate q p l)
 candidate-nonzero q p l h below some = record {
-  below = subst (λ (n : ℕ). candidate q p l < n) (sym (four-pow q)) (set-letter-lt q p 0 l h (subst (λ (n : ℕ). p < n) (four-pow q) below));
+  below = candidate-string q p l h below;
   some = λ z. some (sym (set-letter-same q p 0 l h) ∙ ap (λ (x : ℕ). letterAt q x 0) z ∙ identity-letter);
 }
   where
@@ -93,20 +94,70 @@ candidate-nonzero q p l h below some = record {
         let z : blank q 0 ≡ 0 = omega (arith, blank-le q 0) in
         ap (λ (x : ℕ). letterAt q x 0) (sym z) ∙ blank-pivot q 0 h
 
--- the three that the pivot-free lookup tries
-pub record Candidates (q p : ℕ) : Type 0 where
-  pub with-x : Nonzero q (candidate q p X)
-  pub with-z : Nonzero q (candidate q p Z)
-  pub with-y : Nonzero q (candidate q p Y)
+-- of the exact lookup any string but the identity, of the pivot-free one any string without a letter on the pivot
+abbrev pub Askable : Bool → ℕ → ℕ → Type 0
+Askable true q p = (p < 4 ^ q) × (hasPivot q p ≡ false)
+Askable false q p = Nonzero q p
 
-pub candidates : (q p : ℕ) → 0 < q → p < 4 ^ q → Candidates q p
-candidates q p h below = record {
-  with-x = candidate-nonzero q p X h below (λ z. let n : _≡_ {A = ℕ} 0 1 = cc in omega arith);
-  with-z = candidate-nonzero q p Z h below (λ z. let n : _≡_ {A = ℕ} 0 1 = cc in omega arith);
-  with-y = candidate-nonzero q p Y h below (λ z. let n : _≡_ {A = ℕ} 0 1 = cc in omega arith);
-}
+module _ (q p : ℕ) where
+  ask-string : (any : Bool) → Askable any q p → p < 4 ^ q
+  ask-string true a = a .0
+  ask-string false a = a .below
 
--- ---- the lookups
+  ask-allowed : (any : Bool) → Askable any q p → allowed any q p ≡ Done
+  ask-allowed true a = free-allowed q p (a .1)
+  ask-allowed false a = exact-allowed q p (a .some)
+
+  -- a lookup that may be asked is decided by the table
+  pub ask-sought : (any : Bool) (s : ℕ) (t mx my : List ℕ) (room : ℕ) → Askable any q p → given q s t mx my ≡ Done
+      → lookedUp any q s t mx my p room ≡ sought q (nativeString s (ofBytes s mx) (ofBytes s my)) (entry t) any p room
+  ask-sought any s t mx my room a g = is-sought any q s t mx my p room g (is-string q p (ask-string any a)) (ask-allowed any a)
+
+  module _ (positive : 0 < q) (e : ℕ → ℕ) where
+    -- the three candidates are not the identity
+    candidates : (P : ℕ → Type 0) → p < 4 ^ q → ((x : ℕ) → Nonzero q x → P x) → P (candidate q p X) × P (candidate q p Z) × P (candidate q p Y)
+    candidates P below h = (
+      h (candidate q p X) (candidate-nonzero q p X positive below (λ z. let n : _≡_ {A = ℕ} 0 1 = cc in omega arith)),
+      h (candidate q p Z) (candidate-nonzero q p Z positive below (λ z. let n : _≡_ {A = ℕ} 0 1 = cc in omega arith)),
+      h (candidate q p Y) (candidate-nonzero q p Y positive below (λ z. let n : _≡_ {A = ℕ} 0 1 = cc in omega arith)),
+    )
+
+    -- nor is the string that is looked up
+    pub winner-nonzero : (any : Bool) → Askable any q p → Nonzero q (winner any q e p)
+    winner-nonzero true a =
+        let c = candidates (Nonzero q) (a .0) (λ x i. i) in
+        best-of e (candidate q p X) (candidate q p Z) (candidate q p Y) (Nonzero q) (c .0) (c .1) (c .2)
+    winner-nonzero false a = a
+
+    -- where that has an entry, none is missing
+    winner-some : (any : Bool) → Has e (winner any q e p) → missing any q e p ≡ false
+    winner-some true h = go (missing true q e p) refl
+      where
+        go : (b : Bool) → missing true q e p ≡ b → missing true q e p ≡ false
+        go false z = z
+        go true z =
+            let a = and-eq-true-iff (eqb (e (candidate q p X)) 0 && eqb (e (candidate q p Z)) 0) (eqb (e (candidate q p Y)) 0) .0 z in
+            let b = and-eq-true-iff (eqb (e (candidate q p X)) 0) (eqb (e (candidate q p Z)) 0) .0 (a .0) in
+            absurd (h (best-of e (candidate q p X) (candidate q p Z) (candidate q p Y) (λ (x : ℕ). e x ≡ 0) (eqb-true _ _ (b .0)) (eqb-true _ _ (b .1)) (eqb-true _ _ (a .1))))
+    winner-some false h = ne-eqb (e p) 0 h
+
+    -- ---- where every index meets its rule
+
+    module _ (f : ℕ → ℕ) (small : (n : ℕ) → f n < 4 ^ q) (ok : (x : ℕ) → x < 4 ^ q → Rule q f e x) where
+      -- no walk is bad
+      pub rule-judged : (any : Bool) → Askable any q p → missing any q e p ≡ false → judged any q f e p ≡ true
+      rule-judged true a some =
+          let c = candidates (λ (x : ℕ). sound q f e x ≡ true) (a .0) (λ x i. rule-sound q f e small ok x i) in
+          rw (c .0, c .1, c .2)
+      rule-judged false a some = rule-good q f e small ok p a (eqb-false (e p) 0 some)
+
+      -- with an entry and room the plan of the walk is answered
+      pub rule-planned : (any : Bool) (room : ℕ) → Askable any q p → Has e (winner any q e p) → 2 * depth (e (winner any q e p)) ≤ room
+          → sought q f e any p room ≡ planned q f e (winner any q e p)
+      rule-planned any room a h l =
+          sought-found q f e any p room (winner-some any h) (rule-judged any a (winner-some any h)) ∙ found-fits q f e (winner any q e p) room l
+
+-- ---- a native
 
 -- the plan of a string of depth 0 is its native alone
 pub planned-native : (q : ℕ) (f e : ℕ → ℕ) (p : ℕ) → depth (e p) ≡ 0 → planned q f e p ≡ planBy p (named (e p)) 0 p []
@@ -114,40 +165,3 @@ unfolding listFrom
 planned-native q f e p z =
     ap (λ (d : ℕ). planBy (down q f e p d) (named (e (down q f e p d))) d p (listed (λ (i : ℕ). named (e (down q f e p (d - 1 - i)))) d)) z
     ∙ ap (λ (x : ℕ). planBy x (named (e x)) 0 p []) (down-none q f e p)
-
-module _ (q s : ℕ) (t mx my : List ℕ) (p room : ℕ) (g : given q s t mx my ≡ Done) where
-  abbrev strings : ℕ → ℕ
-  strings = nativeString s (ofBytes s mx) (ofBytes s my)
-
-  -- the walk decides the exact lookup
-  pub exact-walked : Nonzero q p → exact q s t mx my p room ≡ walked q strings (entry t) p room
-  exact-walked i = is-sought false q s t mx my p room g (is-string q p (i .below)) (exact-allowed q p (i .some))
-
-  module _ (small : (n : ℕ) → strings n < 4 ^ q) (ok : (x : ℕ) → x < 4 ^ q → Rule q strings (entry t) x) where
-    pub exact-planned : Nonzero q p → Has (entry t) p → 2 * depth (entry t p) ≤ room → exact q s t mx my p room ≡ planned q strings (entry t) p
-    exact-planned i h l =
-        exact-walked i
-        ∙ walked-good q strings (entry t) p room h (rule-good q strings (entry t) small ok p i h)
-        ∙ found-fits q strings (entry t) p room l
-
-    -- without the pivot the best candidate decides
-    module _ (positive : 0 < q) (below : p < 4 ^ q) (free : hasPivot q p ≡ false) where
-      abbrev winner : ℕ
-      winner = best (entry t) (candidate q p X) (candidate q p Z) (candidate q p Y)
-
-      pub free-walked : pivotFree q s t mx my p room ≡ walked q strings (entry t) winner room
-      free-walked =
-          let c = candidates q p positive below in
-          is-sought true q s t mx my p room g (is-string q p below) (free-allowed q p free)
-          ∙ best-walked q strings (entry t) (candidate q p X) (candidate q p Z) (candidate q p Y) room
-          (rule-sound q strings (entry t) small ok (candidate q p X) (c .with-x))
-          (rule-sound q strings (entry t) small ok (candidate q p Z) (c .with-z))
-          (rule-sound q strings (entry t) small ok (candidate q p Y) (c .with-y))
-
-      pub free-planned : Has (entry t) winner → 2 * depth (entry t winner) ≤ room → pivotFree q s t mx my p room ≡ planned q strings (entry t) winner
-      free-planned h l =
-          let c = candidates q p positive below in
-          let i : Nonzero q winner = best-of (entry t) (candidate q p X) (candidate q p Z) (candidate q p Y) (Nonzero q) (c .with-x) (c .with-z) (c .with-y) in
-          free-walked
-          ∙ walked-good q strings (entry t) winner room h (rule-good q strings (entry t) small ok winner i h)
-          ∙ found-fits q strings (entry t) winner room l

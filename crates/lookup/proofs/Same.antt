@@ -15,9 +15,9 @@ use Rattle.pauli_string.specs.Strings.{hasPivot, rotate}
 use Rattle.native_measurement.specs.Natives.{natives}
 use Rattle.natives.proofs.Kept.{kept-same}
 use Rattle.table.specs.Entries.{depth, field, valid, named}
-use Rattle.lookup.specs.Walks.{stands, next, down, good, rotationAt, rotations, sound, best, candidate}
-use Rattle.lookup.specs.Answers.{Lookup, refusing, planBy, found, walked, bestOf, sought}
-use Rattle.lookup.proofs.Walks.{stands-valid, valid-none, valid-over, valid-in, At, all-hold, good-at}
+use Rattle.lookup.specs.Walks.{stands, next, down, good, rotationAt, rotations, sound, candidate, missing, judged, winner}
+use Rattle.lookup.specs.Answers.{Lookup, refusing, planBy, found, sought}
+use Rattle.lookup.proofs.Walks.{stands-valid, valid-none, valid-over, valid-in, At, all-hold, good-at, winner-good}
 
 -- two tests that agree at each number below which the first holds everywhere
 all-led : (n : ℕ) (s t : ℕ → Bool) → ((k : ℕ) → k < n → ((j : ℕ) → j < k → s j ≡ true) → s k ≡ t k) → allBelow n s ≡ allBelow n t
@@ -81,23 +81,29 @@ module _ (q : ℕ) (f g : ℕ → ℕ) (h : (n : ℕ) → n < natives → f n �
           ap (λ (o : Lookup). cond (ltb room (2 * depth (e p))) (refusing (Room (2 * depth (e p)))) o)
           (ap₂ (λ (x : ℕ) (ns : List ℕ). planBy x (named (e x)) (depth (e p)) p ns) (place-same (depth (e p)) (omega arith)) rotations-same)
 
-    walked-same : (room : ℕ) → walked q f e p room ≡ walked q g e p room
-    walked-same room = ap (λ (o : Lookup). cond (eqb (e p) 0) (refusing NoEntry) o) (by (good q f e p) refl ∙ ap (λ (b : Bool). cond b (found q g e p room) (refusing BadEntry)) good-same)
-      where
-        by : (b : Bool) → good q f e p ≡ b → cond b (found q f e p room) (refusing BadEntry) ≡ cond b (found q g e p room) (refusing BadEntry)
-        by true z = found-same z room
-        by false z = refl
-
     sound-same : sound q f e p ≡ sound q g e p
     unfolding sound
     sound-same = ap (λ (b : Bool). cond (eqb (e p) 0) true b) good-same
 
-  best-same : (e : ℕ → ℕ) (x z y room : ℕ) → bestOf q f e x z y room ≡ bestOf q g e x z y room
-  best-same e x z y room =
-      ap₂ (λ (b : Bool) (o : Lookup). cond b o (refusing BadEntry))
-      (ap₂ _&&_ (ap₂ _&&_ (sound-same e x) (sound-same e z)) (sound-same e y))
-      (walked-same e (best e x z y) room)
+  judged-same : (e : ℕ → ℕ) (any : Bool) (p : ℕ) → judged any q f e p ≡ judged any q g e p
+  judged-same e true p =
+      ap₂ _&&_ (ap₂ _&&_ (sound-same e (candidate q p X)) (sound-same e (candidate q p Z))) (sound-same e (candidate q p Y))
+  judged-same e false p = good-same e p
 
-  pub sought-same : (any : Bool) (e : ℕ → ℕ) (p room : ℕ) → sought any q f e p room ≡ sought any q g e p room
-  sought-same true e p room = best-same e (candidate q p X) (candidate q p Z) (candidate q p Y) room
-  sought-same false e p room = walked-same e p room
+  pub sought-same : (e : ℕ → ℕ) (any : Bool) (p room : ℕ) → sought q f e any p room ≡ sought q g e any p room
+  sought-same e any p room = by-missing (missing any q e p) refl
+    where
+      w : ℕ
+      w = winner any q e p
+
+      by-judged : (b : Bool) → missing any q e p ≡ false → judged any q f e p ≡ b
+          → cond b (found q f e w room) (refusing BadEntry) ≡ cond b (found q g e w room) (refusing BadEntry)
+      by-judged true some z = found-same e w (winner-good q f e any p some z) room
+      by-judged false some z = refl
+
+      by-missing : (b : Bool) → missing any q e p ≡ b
+          → cond b (refusing NoEntry) (cond (judged any q f e p) (found q f e w room) (refusing BadEntry))
+          ≡ cond b (refusing NoEntry) (cond (judged any q g e p) (found q g e w room) (refusing BadEntry))
+      by-missing true z = refl
+      by-missing false z =
+          by-judged (judged any q f e p) z refl ∙ ap (λ (b : Bool). cond b (found q g e w room) (refusing BadEntry)) (judged-same e any p)

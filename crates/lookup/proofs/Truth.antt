@@ -1,13 +1,12 @@
 -- What a lookup answers is a true plan, on any table: going down a walk and then up by its rotations ends where it began, because a rotation
 -- undoes itself. Assumes nothing.
 use mathlib.Core.Path.{_≡_, refl, sym, ap, _∙_}
-use mathlib.Core.Bool.{Bool, true, false, cond, _&&_}
+use mathlib.Core.Bool.{Bool, true, cond, _&&_}
 use mathlib.Core.List.{List}
 use Prim.Native.Nat.{ℕ, zero, suc, _+_, _-_, _≤_, _<_}
 use native.Mathlib.Omega.{arith}
 use lib.Dec.{eqb}
 use borrow.Author.Tests.{eqb-true, eq-eqb, ne-eqb}
-use Rattle.bicycle_common.specs.declared.Pauli.the-variants.{X, Z, Y}
 use Rattle.bicycle_common.specs.Ranges.{listFrom}
 use Rattle.bicycle_common.proofs.Ranges.{length-from}
 use Rattle.pauli_string.specs.Strings.{hasPivot}
@@ -17,11 +16,11 @@ use Rattle.measurement.specs.Measures.{nativeString}
 use Rattle.table.specs.Bytes.{entry}
 use Rattle.table.specs.Entries.{depth, KeptFor, Rotation, leads, named}
 use Rattle.table.specs.Plans.{applied, All}
-use Rattle.lookup.specs.Walks.{next, down, good, bottom, rotationAt, best, candidate}
-use Rattle.lookup.specs.Answers.{planned, walked, exact, pivotFree}
+use Rattle.lookup.specs.Walks.{next, down, good, bottom, rotationAt, winner}
+use Rattle.lookup.specs.Answers.{planned, lookedUp}
 use Rattle.lookup.specs.Truth.{Truly}
 use Rattle.lookup.proofs.Walks.{Valid, stands-valid, good-at}
-use Rattle.lookup.proofs.Cases.{walked-case, free-case, looked-up-case}
+use Rattle.lookup.proofs.Cases.{sought-case, looked-up-case}
 
 -- ---- a good walk is a plan
 
@@ -76,20 +75,10 @@ module _ (q : ℕ) (f e : ℕ → ℕ) (p : ℕ) where
       gives = upward (depth (e p)) 0 (omega arith);
     }
 
-walked-true : (q : ℕ) (f e : ℕ → ℕ) (p room : ℕ) → Truly q f p (walked q f e p room)
-walked-true q f e p room = walked-case (Truly q f p) (λ r. tt) q f e room p (λ some g l. implemented q f e p g)
-
--- ---- on any table
-
-module _ (q s : ℕ) (t mx my : List ℕ) (p room : ℕ) where
-  abbrev strings : ℕ → ℕ
-  strings = nativeString s (ofBytes s mx) (ofBytes s my)
-
-  pub exact-true : Truly q strings p (exact q s t mx my p room)
-  exact-true = looked-up-case (Truly q strings p) (λ r. tt) false q s t mx my p room (walked-true q strings (entry t) p room)
-
-  pub pivot-free-true : Truly q strings (best (entry t) (candidate q p X) (candidate q p Z) (candidate q p Y)) (pivotFree q s t mx my p room)
-  pivot-free-true =
-      let w = best (entry t) (candidate q p X) (candidate q p Z) (candidate q p Y) in
-      looked-up-case (Truly q strings w) (λ r. tt) true q s t mx my p room
-      (free-case (Truly q strings w) (λ r. tt) q strings (entry t) room p (walked-true q strings (entry t) w room))
+-- what a lookup answers, of whichever string it is, on any table
+pub looked-up-true : (any : Bool) (q s : ℕ) (t mx my : List ℕ) (p room : ℕ)
+    → Truly q (nativeString s (ofBytes s mx) (ofBytes s my)) (winner any q (entry t) p) (lookedUp any q s t mx my p room)
+looked-up-true any q s t mx my p room =
+    let f = nativeString s (ofBytes s mx) (ofBytes s my) in
+    let w = winner any q (entry t) p in
+    looked-up-case (Truly q f w) (λ r. tt) any q s t mx my p room (sought-case (Truly q f w) (λ r. tt) q f (entry t) any p room (λ g l. implemented q f (entry t) w g))

@@ -1,21 +1,25 @@
 -- Laws of the walk: its places one by one, that it stays among the strings, and that a good walk has a valid entry of the right depth at every
 -- place. Assumes nothing.
 use mathlib.Core.Path.{_≡_, refl, sym, ap, ap₂, subst, _∙_}
-use mathlib.Core.Bool.{Bool, true, false, cond, _&&_, and-eq-true-iff}
+use mathlib.Core.Bool.{Bool, true, false, cond, _&&_, and-eq-true-iff, true≢false}
 use Prim.Native.Nat.{ℕ, zero, suc, _+_, _-_, _^_, _≤_, _<_}
 use native.Mathlib.Numerals.{add-one}
 use native.Mathlib.Omega.{arith}
 use native.Mathlib.Decide.{ℕ-discrete, decLt}
 use lib.Dec.{T, eqb, ltb}
 use borrow.Author.Tests.{lt-ltb, le-ltb, eq-eqb, ne-eqb, eqb-true, ltb-true}
+use Rattle.bicycle_common.specs.declared.Pauli.{Pauli}
+use Rattle.bicycle_common.specs.declared.Pauli.the-variants.{X, Z, Y}
 use Rattle.bicycle_common.specs.Ranges.{allBelow}
 use Rattle.bicycle_common.proofs.Ranges.{all-below, all-true, all-false}
 use Rattle.pauli_string.specs.Strings.{hasPivot}
+use Rattle.pauli_string.proofs.Places.{set-letter-lt}
+use Rattle.pauli_string.proofs.Range.{four-pow}
 use Rattle.pauli_string.proofs.Pivot.{rotate-string}
 use Rattle.native_measurement.specs.Natives.{natives}
 use Rattle.natives.specs.Kept.{kept}
 use Rattle.table.specs.Entries.{depth, field, leads, valid, validBy, named}
-use Rattle.lookup.specs.Walks.{stands, next, down, good, sound, better, best}
+use Rattle.lookup.specs.Walks.{stands, next, down, good, sound, candidate, better, best, noneHas, allSound, missing, judged, winner}
 
 -- ---- valid entries
 
@@ -216,3 +220,62 @@ module _ (e : ℕ → ℕ) (x z y : ℕ) where
 
   pub best-least-third : (e y ≡ 0 → ⊥) → Least y (best e x z y)
   best-least-third h = better-least-second e (better e x z) y h
+
+  -- where one of them has an entry, so has the best
+  pub best-some : noneHas e x z y ≡ false → e (best e x z y) ≡ 0 → ⊥
+  best-some h = elim (ℕ-discrete (e x) 0) [
+    | no k ↦ best-least-first k .0
+    | yes a ↦ elim (ℕ-discrete (e z) 0) [
+      | no k ↦ best-least-second k .0
+      | yes b ↦ elim (ℕ-discrete (e y) 0) [
+        | no k ↦ best-least-third k .0
+        | yes c ↦ absurd (true≢false (sym (all-none a b c) ∙ h))
+      ]
+    ]
+  ]
+    where
+      all-none : e x ≡ 0 → e z ≡ 0 → e y ≡ 0 → noneHas e x z y ≡ true
+      all-none a b c = rw (eq-eqb (e x) 0 a, eq-eqb (e z) 0 b, eq-eqb (e y) 0 c)
+
+-- ---- what is looked up
+
+pub candidate-string : (q p : ℕ) (l : Pauli) → 0 < q → p < 4 ^ q → candidate q p l < 4 ^ q
+candidate-string q p l positive h =
+    subst (λ (n : ℕ). candidate q p l < n) (sym (four-pow q)) (set-letter-lt q p 0 l positive (subst (λ (n : ℕ). p < n) (four-pow q) h))
+
+-- three values that add up to 0 are all 0
+pub none-sum : (a b c : ℕ) → eqb (a + b + c) 0 ≡ (eqb a 0 && eqb b 0 && eqb c 0)
+none-sum a b c = elim (ℕ-discrete a 0) [
+  | no h ↦ ne-eqb (a + b + c) 0 (λ z. h (omega arith)) ∙ sym (rw (ne-eqb a 0 h))
+  | yes x ↦ elim (ℕ-discrete b 0) [
+    | no h ↦ ne-eqb (a + b + c) 0 (λ z. h (omega arith)) ∙ sym (rw (eq-eqb a 0 x, ne-eqb b 0 h))
+    | yes y ↦ elim (ℕ-discrete c 0) [
+      | no h ↦ ne-eqb (a + b + c) 0 (λ z. h (omega arith)) ∙ sym (rw (eq-eqb a 0 x, eq-eqb b 0 y, ne-eqb c 0 h))
+      | yes z ↦ eq-eqb (a + b + c) 0 (omega arith) ∙ sym (rw (eq-eqb a 0 x, eq-eqb b 0 y, eq-eqb c 0 z))
+    ]
+  ]
+]
+
+-- what is said of three candidates
+pub of-three : {A : Type 0} (h : ℕ → ℕ → ℕ → A) {a b c x z y : ℕ} → a ≡ x → b ≡ z → c ≡ y → h a b c ≡ h x z y
+of-three h {a} {b} {c} {x} {z} {y} i j k = ap₂ (λ (m n : ℕ). h m n c) i j ∙ ap (h x z) k
+
+module _ (q : ℕ) (f e : ℕ → ℕ) where
+  -- with all three candidates sound, and one of them with an entry, the best has a good walk
+  best-good : (x z y : ℕ) → noneHas e x z y ≡ false → allSound q f e x z y ≡ true → good q f e (best e x z y) ≡ true
+  best-good x z y some h =
+      let w = best e x z y in
+      let a = and-eq-true-iff (sound q f e x && sound q f e z) (sound q f e y) .0 h in
+      let b = and-eq-true-iff (sound q f e x) (sound q f e z) .0 (a .0) in
+      sym (sound-some q f e w (best-some e x z y some)) ∙ best-of e x z y (λ (v : ℕ). sound q f e v ≡ true) (b .0) (b .1) (a .1)
+
+  -- what is judged has a good walk
+  pub winner-good : (any : Bool) (p : ℕ) → missing any q e p ≡ false → judged any q f e p ≡ true → good q f e (winner any q e p) ≡ true
+  winner-good true p some h = best-good (candidate q p X) (candidate q p Z) (candidate q p Y) some h
+  winner-good false p some h = h
+
+-- and is a string
+pub winner-string : (q : ℕ) (e : ℕ → ℕ) (any : Bool) (p : ℕ) → 0 < q → p < 4 ^ q → winner any q e p < 4 ^ q
+winner-string q e true p positive h =
+    best-of e (candidate q p X) (candidate q p Z) (candidate q p Y) (λ (x : ℕ). x < 4 ^ q) (candidate-string q p X positive h) (candidate-string q p Z positive h) (candidate-string q p Y positive h)
+winner-string q e false p positive h = h

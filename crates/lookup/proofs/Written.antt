@@ -1,13 +1,12 @@
 -- What a lookup writes is counted by its answer and has room in the buffer, so that the front of the buffer is what was written. Assumes
 -- nothing.
 use mathlib.Core.Path.{_≡_, refl, sym, ap, subst, _∙_}
-use mathlib.Core.Bool.{Bool, true, false}
+use mathlib.Core.Bool.{Bool}
 use mathlib.Core.List.{List, [], _∷_}
 use Prim.Native.Nat.{ℕ, _+_, _*_, _≤_}
 use native.Mathlib.Omega.{arith}
 use lib.ListN.{length, take, drop}
 use lib.Seq.{sets-eq, take-at}
-use Rattle.bicycle_common.specs.declared.Pauli.the-variants.{X, Z, Y}
 use Rattle.bicycle_common.specs.declared.Refusal.{Refusal}
 use Rattle.bicycle_common.proofs.Ranges.{length-from}
 use Rattle.measurement.specs.Matrices.{ofBytes}
@@ -17,9 +16,9 @@ use Rattle.table.specs.Entries.{depth}
 use Rattle.lookup.specs.declared.LookupAnswer.{LookupAnswer}
 use Rattle.lookup.specs.declared.LookupAnswer.the-variants.{Is, Refused}
 use Rattle.lookup.specs.declared.MeasurementImpl.{MeasurementImpl}
-use Rattle.lookup.specs.Walks.{rotationAt, best, candidate}
-use Rattle.lookup.specs.Answers.{twoBytes, Lookup, Leaves, walked, sought, lookedUp}
-use Rattle.lookup.proofs.Cases.{walked-case, free-case, looked-up-case}
+use Rattle.lookup.specs.Walks.{rotationAt, winner}
+use Rattle.lookup.specs.Answers.{twoBytes, Lookup, Leaves, lookedUp}
+use Rattle.lookup.proofs.Cases.{sought-case, looked-up-case}
 
 -- ns is counted by the answer, with room for two bytes each; a refusal goes with no number at all
 abbrev Counts : ℕ → LookupAnswer → List ℕ → Type 0
@@ -29,21 +28,13 @@ Counts room (Refused r) ns = ns ≡ []
 abbrev pub Counted : ℕ → Lookup → Type 0
 Counted room o = Counts room (o .answer) (o .written)
 
-module _ (q : ℕ) (f e : ℕ → ℕ) (room : ℕ) where
-  walked-counted : (p : ℕ) → Counted room (walked q f e p room)
-  walked-counted p =
-      let l = length-from (rotationAt q f e p) 0 (depth (e p)) in
-      walked-case (Counted room) (λ r. refl) q f e room p (λ some g h. (sym l, omega (arith, l)))
-
-  sought-counted : (any : Bool) (p : ℕ) → Counted room (sought any q f e p room)
-  sought-counted true p =
-      free-case (Counted room) (λ r. refl) q f e room p (walked-counted (best e (candidate q p X) (candidate q p Z) (candidate q p Y)))
-  sought-counted false p = walked-counted p
-
 pub counted : (any : Bool) (q s : ℕ) (t mx my : List ℕ) (p room : ℕ) → Counted room (lookedUp any q s t mx my p room)
 counted any q s t mx my p room =
+    let f = nativeString s (ofBytes s mx) (ofBytes s my) in
+    let w = winner any q (entry t) p in
+    let l = length-from (rotationAt q f (entry t) w) 0 (depth (entry t w)) in
     looked-up-case (Counted room) (λ r. refl) any q s t mx my p room
-    (sought-counted q (nativeString s (ofBytes s mx) (ofBytes s my)) (entry t) room any p)
+    (sought-case (Counted room) (λ r. refl) q f (entry t) any p room (λ g h. (sym l, omega (arith, l))))
 
 -- ---- the front
 

@@ -1,12 +1,11 @@
 -- What the lookups answer, and the natives that they write: the lowest number of 1, 3, 4, 5 (6 without the pivot), 7, 8, 9 that applies, or
 -- the plan. Assumes nothing.
-use mathlib.Core.Bool.{Bool, true, false, cond, _&&_}
+use mathlib.Core.Bool.{Bool, true, false, cond}
 use mathlib.Core.List.{List, [], _∷_}
 use mathlib.Core.Path.{_≡_}
 use Prim.Native.Nat.{ℕ, _*_, _/_, _%_}
 use lib.Dec.{eqb, ltb}
 use lib.Seq.{sets}
-use Rattle.bicycle_common.specs.declared.Pauli.the-variants.{X, Z, Y}
 use Rattle.bicycle_common.specs.declared.Refusal.{Refusal}
 use Rattle.bicycle_common.specs.declared.Refusal.the-variants.{StringRange, Identity, PivotSet, NoEntry, BadEntry, Room}
 use Rattle.bicycle_common.specs.declared.Outcome.{Outcome}
@@ -21,7 +20,7 @@ use Rattle.table.specs.Answers.{given}
 use Rattle.lookup.specs.declared.LookupAnswer.{LookupAnswer}
 use Rattle.lookup.specs.declared.LookupAnswer.the-variants.{Is, Refused}
 use Rattle.lookup.specs.declared.MeasurementImpl.{MeasurementImpl}
-use Rattle.lookup.specs.Walks.{good, bottom, rotations, sound, best, candidate}
+use Rattle.lookup.specs.Walks.{bottom, rotations, missing, judged, winner}
 
 -- the string measured, the base's native number and its string, the count of rotations
 abbrev pub toldLookup : LookupAnswer → Told
@@ -64,17 +63,9 @@ module _ (q : ℕ) (f e : ℕ → ℕ) where
   abbrev pub found : ℕ → ℕ → Lookup
   found p room = cond (ltb room (2 * depth (e p))) (refusing (Room (2 * depth (e p)))) (planned p)
 
-  -- 7 for value 0, 8 for a bad walk
-  abbrev pub walked : ℕ → ℕ → Lookup
-  walked p room = cond (eqb (e p) 0) (refusing NoEntry) (cond (good q f e p) (found p room) (refusing BadEntry))
-
-  -- of three candidates: 8 where any with an entry has a bad walk, else the lookup of the best of them, which says 7 where none has an entry
-  abbrev pub bestOf : ℕ → ℕ → ℕ → ℕ → Lookup
-  bestOf x z y room = cond (sound q f e x && sound q f e z && sound q f e y) (walked (best e x z y) room) (refusing BadEntry)
-
-  -- p with X, Z, Y on the pivot
-  abbrev pub free : ℕ → ℕ → Lookup
-  free p room = bestOf (candidate q p X) (candidate q p Z) (candidate q p Y) room
+  -- 7 where there is no entry, 8 where a walk is bad; `any`: with any letter on the pivot
+  abbrev pub sought : Bool → ℕ → ℕ → Lookup
+  sought any p room = cond (missing any q e p) (refusing NoEntry) (cond (judged any q f e p) (found (winner any q e p) room) (refusing BadEntry))
 
 -- ---- the calls
 
@@ -83,21 +74,16 @@ abbrev pub wherePassed : Outcome → Lookup → Lookup
 wherePassed Done o = o
 wherePassed (NotDone r) o = refusing r
 
--- A lookup is of p itself, or, with any letter on the pivot, of the best candidate. 5 for the first of 0, 6 for the second where a letter
--- stands on the pivot:
+-- 5 for the exact lookup of 0, 6 for the pivot-free lookup of a string with a letter on the pivot
 abbrev pub allowed : Bool → ℕ → ℕ → Outcome
 allowed any q p = cond any (cond (hasPivot q p) (NotDone PivotSet) Done) (cond (eqb p 0) (NotDone Identity) Done)
-
--- what the table decides
-abbrev pub sought : Bool → ℕ → (ℕ → ℕ) → (ℕ → ℕ) → ℕ → ℕ → Lookup
-sought any q f e p room = cond any (free q f e p room) (walked q f e p room)
 
 -- the lookup of p in the table t of a pair, with a buffer of length room
 unfoldable pub lookedUp : Bool → ℕ → ℕ → List ℕ → List ℕ → List ℕ → ℕ → ℕ → Lookup
 lookedUp any q s t mx my p room =
     wherePassed (given q s t mx my)
     (cond (isString q p)
-    (wherePassed (allowed any q p) (sought any q (nativeString s (ofBytes s mx) (ofBytes s my)) (entry t) p room))
+    (wherePassed (allowed any q p) (sought q (nativeString s (ofBytes s mx) (ofBytes s my)) (entry t) any p room))
     (refusing StringRange))
 
 -- the exact lookup

@@ -5,6 +5,7 @@ use mathlib.Core.List.{List}
 use Prim.Native.Nat.{ℕ, zero, suc, _+_, _-_}
 use lib.Dec.{eqb, ltb}
 use Rattle.bicycle_common.specs.declared.Pauli.{Pauli}
+use Rattle.bicycle_common.specs.declared.Pauli.the-variants.{X, Z, Y}
 use Rattle.bicycle_common.specs.Ranges.{allBelow, listed}
 use Rattle.pauli_string.specs.Strings.{setLetter}
 use Rattle.table.specs.Entries.{depth, named, leads, valid}
@@ -43,7 +44,11 @@ module _ (q : ℕ) (f e : ℕ → ℕ) where
   unfoldable pub sound : ℕ → Bool
   sound p = cond (eqb (e p) 0) true (good p)
 
--- ---- the pivot-free choice
+-- ---- which string is looked up: p itself, or, with any letter on the pivot, the best of three candidates
+
+-- p with a letter on the pivot
+abbrev pub candidate : ℕ → ℕ → Pauli → ℕ
+candidate q p l = setLetter q p 0 l
 
 -- of two strings the one that has an entry, of both the one with fewer rotations, a where they are equal
 unfoldable pub better : (ℕ → ℕ) → ℕ → ℕ → ℕ
@@ -53,6 +58,22 @@ better e a b = cond (eqb (e a) 0) b (cond (eqb (e b) 0) a (cond (ltb (depth (e b
 abbrev pub best : (ℕ → ℕ) → ℕ → ℕ → ℕ → ℕ
 best e x z y = better e (better e x z) y
 
--- p with a letter on the pivot
-abbrev pub candidate : ℕ → ℕ → Pauli → ℕ
-candidate q p l = setLetter q p 0 l
+-- three candidates without an entry
+abbrev pub noneHas : (ℕ → ℕ) → ℕ → ℕ → ℕ → Bool
+noneHas e x z y = eqb (e x) 0 && eqb (e z) 0 && eqb (e y) 0
+
+-- three candidates, of which each has no entry or a good walk
+abbrev pub allSound : ℕ → (ℕ → ℕ) → (ℕ → ℕ) → ℕ → ℕ → ℕ → Bool
+allSound q f e x z y = sound q f e x && sound q f e z && sound q f e y
+
+-- value 0 at p; pivot-free: at all three
+abbrev pub missing : Bool → ℕ → (ℕ → ℕ) → ℕ → Bool
+missing any q e p = cond any (noneHas e (candidate q p X) (candidate q p Z) (candidate q p Y)) (eqb (e p) 0)
+
+-- the walk is good; pivot-free: for every candidate with a nonzero value
+abbrev pub judged : Bool → ℕ → (ℕ → ℕ) → (ℕ → ℕ) → ℕ → Bool
+judged any q f e p = cond any (allSound q f e (candidate q p X) (candidate q p Z) (candidate q p Y)) (good q f e p)
+
+-- the string that is looked up
+abbrev pub winner : Bool → ℕ → (ℕ → ℕ) → ℕ → ℕ
+winner any q e p = cond any (best e (candidate q p X) (candidate q p Z) (candidate q p Y)) p

@@ -27,8 +27,8 @@ ghost use Rattle.natives.specs.Arrays.{at, Held};
 ghost use Rattle.table.specs.Bytes.{tableLength, entry};
 ghost use Rattle.table.specs.Entries.{depth, leads, valid};
 ghost use Rattle.lookup.specs.Walks;
-ghost use Rattle.lookup.specs.Walks.{stands, good, bottom, rotations, sound};
-ghost use Rattle.lookup.specs.Answers.{twoBytes, Leaves, found, walked, bestOf, free, allowed, sought, lookedUp, exact, pivotFree};
+ghost use Rattle.lookup.specs.Walks.{stands, good, bottom, rotations, sound, noneHas, allSound, missing, judged};
+ghost use Rattle.lookup.specs.Answers.{twoBytes, Leaves, found, allowed, sought, lookedUp, exact, pivotFree};
 
 // A native, and the string that it measures.
 pub struct NativeMeasurementImpl {
@@ -145,7 +145,7 @@ fn write_rotations(table: &[u8], strings: &[u32; 540], p: u32, d: u32, out: &mut
     at
 }
 
-// ---- the exact lookup
+// ---- the plan
 
 // The plan of the good walk from p, if the buffer has room for it.
 fn found(table: &[u8], strings: &[u32; 540], p: u32, out: &mut [u8]) -> LookupAnswer
@@ -171,21 +171,16 @@ fn found(table: &[u8], strings: &[u32; 540], p: u32, out: &mut [u8]) -> LookupAn
     })
 }
 
-// The lookup of a string, over the natives' strings.
-fn look(table: &[u8], strings: &[u32; 540], p: u32, out: &mut [u8]) -> LookupAnswer
-    requires { ⌜ (length (now table) ≡ tableLength qubits) × (p < 4 ^ qubits) × Held qubits (now strings) ⌝ }
-    ensures { λ r. ⌜ Leaves (walked qubits (at (now (strings .entry))) (entry (now (table .entry))) p (length (now (out .entry)))) (now (out .entry)) r (now (out .exit)) ⌝ }
-{
-    if table::entry_unchecked(table, p) == 0 {
-        return LookupAnswer::Refused(Refusal::NoEntry);
-    }
-    if !is_good(table, strings, p) {
-        return LookupAnswer::Refused(Refusal::BadEntry);
-    }
-    found(table, strings, p, out)
-}
+// ---- the candidates of the pivot-free lookup
 
-// ---- the pivot-free lookup
+// p with a letter on the pivot.
+fn candidate(p: u32, l: Pauli) -> u32
+    requires { ⌜ p < 4 ^ qubits ⌝ }
+    ensures { λ r. ⌜ (r ≡ Walks.candidate qubits p l) × (r < 4 ^ qubits) ⌝ }
+{
+    let c = PauliString(p).set_pauli_unchecked(0, l);
+    c.0
+}
 
 // Whether p has no entry, or a good walk.
 fn is_sound(table: &[u8], strings: &[u32; 540], p: u32) -> bool
@@ -226,46 +221,75 @@ fn best(table: &[u8], x: u32, z: u32, y: u32) -> u32
     better(table, first, y)
 }
 
-// The lookup of the best of three strings, over the natives' strings.
-fn look_best(
-    table: &[u8],
-    strings: &[u32; 540],
-    x: u32,
-    z: u32,
-    y: u32,
-    out: &mut [u8],
-) -> LookupAnswer
+// Whether none of three strings has an entry. All three are read before one is tested, so that the reads overlap.
+fn none_has(table: &[u8], x: u32, z: u32, y: u32) -> bool
+    requires { ⌜ (length (now table) ≡ tableLength qubits) × (x < 4 ^ qubits) × (z < 4 ^ qubits) × (y < 4 ^ qubits) ⌝ }
+    ensures { λ r. ⌜ r ≡ noneHas (entry (now (table .entry))) x z y ⌝ }
+{
+    let a = table::entry_unchecked(table, x) as u64;
+    let b = table::entry_unchecked(table, z) as u64;
+    let c = table::entry_unchecked(table, y) as u64;
+    a + b + c == 0
+}
+
+// Whether each of three strings has no entry, or a good walk.
+fn all_sound(table: &[u8], strings: &[u32; 540], x: u32, z: u32, y: u32) -> bool
     requires { ⌜ (length (now table) ≡ tableLength qubits) × (x < 4 ^ qubits) × (z < 4 ^ qubits) × (y < 4 ^ qubits) × Held qubits (now strings) ⌝ }
-    ensures { λ r. ⌜ Leaves (bestOf qubits (at (now (strings .entry))) (entry (now (table .entry))) x z y (length (now (out .entry)))) (now (out .entry)) r (now (out .exit)) ⌝ }
+    ensures { λ r. ⌜ r ≡ allSound qubits (at (now (strings .entry))) (entry (now (table .entry))) x z y ⌝ }
 {
     if !is_sound(table, strings, x) {
-        return LookupAnswer::Refused(Refusal::BadEntry);
+        return false;
     }
     if !is_sound(table, strings, z) {
-        return LookupAnswer::Refused(Refusal::BadEntry);
+        return false;
     }
-    if !is_sound(table, strings, y) {
-        return LookupAnswer::Refused(Refusal::BadEntry);
-    }
-    let w = best(table, x, z, y);
-    if table::entry_unchecked(table, w) == 0 {
-        return LookupAnswer::Refused(Refusal::NoEntry);
-    }
-    found(table, strings, w, out)
+    is_sound(table, strings, y)
 }
 
-// The same for p with each letter on the pivot.
-fn look_free(table: &[u8], strings: &[u32; 540], p: u32, out: &mut [u8]) -> LookupAnswer
-    requires { ⌜ (length (now table) ≡ tableLength qubits) × (p < 4 ^ qubits) × Held qubits (now strings) ⌝ }
-    ensures { λ r. ⌜ Leaves (free qubits (at (now (strings .entry))) (entry (now (table .entry))) p (length (now (out .entry)))) (now (out .entry)) r (now (out .exit)) ⌝ }
+// ---- which string is looked up: p itself, or with any letter on the pivot the best candidate
+
+// Whether p has no entry, or no candidate has.
+fn is_missing(table: &[u8], p: u32, any: bool) -> bool
+    requires { ⌜ (length (now table) ≡ tableLength qubits) × (p < 4 ^ qubits) ⌝ }
+    ensures { λ r. ⌜ r ≡ missing any qubits (entry (now (table .entry))) p ⌝ }
 {
-    let x = PauliString(p).set_pauli_unchecked(0, Pauli::X);
-    let z = PauliString(p).set_pauli_unchecked(0, Pauli::Z);
-    let y = PauliString(p).set_pauli_unchecked(0, Pauli::Y);
-    look_best(table, strings, x.0, z.0, y.0, out)
+    if any {
+        let x = candidate(p, Pauli::X);
+        let z = candidate(p, Pauli::Z);
+        let y = candidate(p, Pauli::Y);
+        return none_has(table, x, z, y);
+    }
+    table::entry_unchecked(table, p) == 0
 }
 
-// One or the other.
+// Whether the walk from p is good, or that of every candidate with an entry.
+fn is_judged(table: &[u8], strings: &[u32; 540], p: u32, any: bool) -> bool
+    requires { ⌜ (length (now table) ≡ tableLength qubits) × (p < 4 ^ qubits) × Held qubits (now strings) ⌝ }
+    ensures { λ r. ⌜ r ≡ judged any qubits (at (now (strings .entry))) (entry (now (table .entry))) p ⌝ }
+{
+    if any {
+        let x = candidate(p, Pauli::X);
+        let z = candidate(p, Pauli::Z);
+        let y = candidate(p, Pauli::Y);
+        return all_sound(table, strings, x, z, y);
+    }
+    is_good(table, strings, p)
+}
+
+fn winner(table: &[u8], p: u32, any: bool) -> u32
+    requires { ⌜ (length (now table) ≡ tableLength qubits) × (p < 4 ^ qubits) ⌝ }
+    ensures { λ r. ⌜ r ≡ Walks.winner any qubits (entry (now (table .entry))) p ⌝ }
+{
+    if any {
+        let x = candidate(p, Pauli::X);
+        let z = candidate(p, Pauli::Z);
+        let y = candidate(p, Pauli::Y);
+        return best(table, x, z, y);
+    }
+    p
+}
+
+// The lookup over the natives' strings, where there is an entry.
 fn look_sought(
     table: &[u8],
     strings: &[u32; 540],
@@ -274,12 +298,14 @@ fn look_sought(
     out: &mut [u8],
 ) -> LookupAnswer
     requires { ⌜ (length (now table) ≡ tableLength qubits) × (p < 4 ^ qubits) × Held qubits (now strings) ⌝ }
-    ensures { λ r. ⌜ Leaves (sought any qubits (at (now (strings .entry))) (entry (now (table .entry))) p (length (now (out .entry)))) (now (out .entry)) r (now (out .exit)) ⌝ }
+    requires { ⌜ missing any qubits (entry (now table)) p ≡ false ⌝ }
+    ensures { λ r. ⌜ Leaves (sought qubits (at (now (strings .entry))) (entry (now (table .entry))) any p (length (now (out .entry)))) (now (out .entry)) r (now (out .exit)) ⌝ }
 {
-    if any {
-        return look_free(table, strings, p, out);
+    if !is_judged(table, strings, p, any) {
+        return LookupAnswer::Refused(Refusal::BadEntry);
     }
-    look(table, strings, p, out)
+    let w = winner(table, p, any);
+    found(table, strings, w, out)
 }
 
 // ---- the calls
@@ -304,8 +330,11 @@ fn is_allowed(p: PauliString, any: bool) -> Outcome
 fn look_pair(table: &[u8], mx: &[u8], my: &[u8], p: u32, any: bool, out: &mut [u8]) -> LookupAnswer
     requires { ⌜ (length (now table) ≡ tableLength qubits) × (p < 4 ^ qubits) ⌝ }
     requires { ⌜ (isBytes side (now mx) ≡ true) × (isBytes side (now my) ≡ true) ⌝ }
-    ensures { λ r. ⌜ Leaves (sought any qubits (nativeString side (ofBytes side (now (mx .entry))) (ofBytes side (now (my .entry)))) (entry (now (table .entry))) p (length (now (out .entry)))) (now (out .entry)) r (now (out .exit)) ⌝ }
+    ensures { λ r. ⌜ Leaves (sought qubits (nativeString side (ofBytes side (now (mx .entry))) (ofBytes side (now (my .entry)))) (entry (now (table .entry))) any p (length (now (out .entry)))) (now (out .entry)) r (now (out .exit)) ⌝ }
 {
+    if is_missing(table, p, any) {
+        return LookupAnswer::Refused(Refusal::NoEntry);
+    }
     let mut strings = [0u32; 540];
     natives::strings_unchecked(mx, my, &mut strings);
     look_sought(table, &strings, p, any, out)

@@ -1,7 +1,7 @@
 -- Demand 3, for the table that a build leaves and for every table that the check accepts. The definitions come first; the theorems are
 -- `demand-3` and, for the best letter on the pivot, `pivot-free-demand-3`. Each is a case of laws over any number of qubits. Assumes nothing.
 use mathlib.Core.Path.{_≡_, refl, ap, subst, _∙_}
-use mathlib.Core.Bool.{false}
+use mathlib.Core.Bool.{Bool, true, false}
 use mathlib.Core.List.{List}
 use Prim.Native.Nat.{ℕ, _*_, _^_, _≤_, _<_}
 use native.Mathlib.Omega.{arith}
@@ -21,12 +21,12 @@ use Rattle.table.proofs.Plans.{sequence-reaches}
 use Rattle.lookup.specs.declared.LookupAnswer.{LookupAnswer}
 use Rattle.lookup.specs.declared.LookupAnswer.the-variants.{Is}
 use Rattle.lookup.specs.declared.MeasurementImpl.{MeasurementImpl}
-use Rattle.lookup.specs.Walks.{bottom, rotationAt, rotations, best, candidate}
-use Rattle.lookup.specs.Answers.{twoBytes, Lookup, Leaves, implBy, planned, exact, pivotFree}
+use Rattle.lookup.specs.Walks.{bottom, rotationAt, rotations, candidate, winner}
+use Rattle.lookup.specs.Answers.{twoBytes, Lookup, Leaves, implBy, planned, lookedUp, exact, pivotFree}
 use Rattle.lookup.specs.Truth.{Implements, Truly}
-use Rattle.lookup.proofs.Walks.{best-of, best-least-first, best-least-second, best-least-third}
-use Rattle.lookup.proofs.Truth.{exact-true, pivot-free-true}
-use Rattle.lookup.proofs.Ruled.{candidate-nonzero, candidates, exact-planned, free-planned}
+use Rattle.lookup.proofs.Walks.{best-least-first, best-least-second, best-least-third}
+use Rattle.lookup.proofs.Truth.{looked-up-true}
+use Rattle.lookup.proofs.Ruled.{candidate-nonzero, Askable, ask-sought, winner-nonzero, rule-planned}
 use Rattle.promises.specs.Checks.{pairString, BuiltOrAccepted, Ruled, small, ruled-table}
 
 -- The answer r, and the buffer that was `before` and is `after` now, hold a shortest plan for p: a kept native and kept natives with pivot
@@ -52,7 +52,7 @@ pub record Demand3 (mx my t : List ℕ) (p : ℕ) : Type 0 where
 
 -- the candidate with the fewest rotations, the first of X, Z, Y where several have them
 abbrev pub chosen : List ℕ → ℕ → ℕ
-chosen t p = best (entry t) (candidate qubits p X) (candidate qubits p Z) (candidate qubits p Y)
+chosen t p = winner true qubits (entry t) p
 
 -- a shortest plan for the chosen candidate, and no sequence for p with any letter on the pivot is shorter
 pub record BestPlan (mx my t : List ℕ) (p : ℕ) (before : List ℕ) (r : LookupAnswer) (after : List ℕ) : Type 0 where
@@ -96,19 +96,22 @@ module _ (mx my t : List ℕ) (ok : BuiltOrAccepted mx my t) where
   reaches : (b : ℕ) (ns : List ℕ) (p : ℕ) → Gives qubits f b ns p → (p ≡ 0 → ⊥) → Has (entry t) p × (depth (entry t p) ≤ length ns)
   reaches = sequence-reaches qubits f (small mx my) (entry t) (ready .ruled)
 
+  -- either lookup
+  abbrev shortest : (any : Bool) (p : ℕ) → Askable any qubits p → Has (entry t) (winner any qubits (entry t) p) → (before : List ℕ)
+      → 2 * depth (entry t (winner any qubits (entry t) p)) ≤ length before → (r : LookupAnswer) (after : List ℕ)
+      → Leaves (lookedUp any qubits side t mx my p (length before)) before r after → ShortestPlan mx my (winner any qubits (entry t) p) before r after
+  shortest any p a h before room r after w =
+      let e = entry t in
+      planned-shortest mx my t (winner any qubits e p) before r after (lookedUp any qubits side t mx my p (length before)) w
+      (ask-sought qubits p any side t mx my (length before) a (ready .is-given) ∙ rule-planned qubits p (lit< tt) e f (small mx my) (ready .ruled) any (length before) a h room)
+      (looked-up-true any qubits side t mx my p (length before))
+      (λ b ns g. reaches b ns (winner any qubits e p) g (winner-nonzero qubits p (lit< tt) e any a .some) .1)
+
   pub demand-3 : (p : ℕ) → Nonzero qubits p → Demand3 mx my t p
   demand-3 p i = record {
-    entry-is-planned = shortest;
+    entry-is-planned = shortest false p i;
     without-entry = λ z b ns g. reaches b ns p g (i .some) .0 z;
   }
-    where
-      shortest : Has (entry t) p → (before : List ℕ) → 2 * depth (entry t p) ≤ length before → (r : LookupAnswer) (after : List ℕ)
-          → Leaves (exact qubits side t mx my p (length before)) before r after → ShortestPlan mx my p before r after
-      shortest h before room r after w =
-          planned-shortest mx my t p before r after (exact qubits side t mx my p (length before)) w
-          (exact-planned qubits side t mx my p (length before) (ready .is-given) (small mx my) (ready .ruled) i h room)
-          (exact-true qubits side t mx my p (length before))
-          (λ b ns g. reaches b ns p g (i .some) .1)
 
   module _ (p : ℕ) (below : p < 4 ^ qubits) (free : hasPivot qubits p ≡ false) where
     nonzero : (l : Pauli) → (l ≡ I → ⊥) → Nonzero qubits (candidate qubits p l)
@@ -122,18 +125,10 @@ module _ (mx my t : List ℕ) (ok : BuiltOrAccepted mx my t) where
     no-more Z i h = best-least-second (entry t) (candidate qubits p X) (candidate qubits p Z) (candidate qubits p Y) h
     no-more Y i h = best-least-third (entry t) (candidate qubits p X) (candidate qubits p Z) (candidate qubits p Y) h
 
-    pub chosen-nonzero : Nonzero qubits (chosen t p)
-    chosen-nonzero =
-        let c = candidates qubits p (lit< tt) below in
-        best-of (entry t) (candidate qubits p X) (candidate qubits p Z) (candidate qubits p Y) (Nonzero qubits) (c .with-x) (c .with-z) (c .with-y)
-
     best-plan : Has (entry t) (chosen t p) → (before : List ℕ) → 2 * depth (entry t (chosen t p)) ≤ length before → (r : LookupAnswer) (after : List ℕ)
         → Leaves (pivotFree qubits side t mx my p (length before)) before r after → BestPlan mx my t p before r after
     best-plan h before room r after w = record {
-      shortest = planned-shortest mx my t (chosen t p) before r after (pivotFree qubits side t mx my p (length before)) w
-          (free-planned qubits side t mx my p (length before) (ready .is-given) (small mx my) (ready .ruled) (lit< tt) below free h room)
-          (pivot-free-true qubits side t mx my p (length before))
-          (λ b ns g. reaches b ns (chosen t p) g (chosen-nonzero .some) .1);
+      shortest = shortest true p (below, free) h before room r after w;
       no-letter-shorter = λ l i b ns g.
           let k = reaches b ns (candidate qubits p l) g (nonzero l i .some) in
           omega (arith, length-from (rotationAt qubits f (entry t) (chosen t p)) 0 (depth (entry t (chosen t p))), no-more l i (k .0) .1, k .1);

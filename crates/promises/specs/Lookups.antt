@@ -1,7 +1,7 @@
 -- What else the lookups promise: a true plan on any table, each refusal exactly where document 01 says, no refusal 8 on a table that was
 -- built or accepted, and there string 1 for the pivot-free lookup of 0. Assumes nothing.
 use mathlib.Core.Path.{_≡_, refl, sym, ap, subst, _∙_}
-use mathlib.Core.Bool.{Bool, true, false, _&&_, cond, and-false}
+use mathlib.Core.Bool.{Bool, true, false, _&&_}
 use mathlib.Core.List.{List, []}
 use Prim.Native.Nat.{ℕ, _*_, _^_, _≤_, _<_}
 use native.Mathlib.Omega.{arith}
@@ -9,8 +9,7 @@ use native.Mathlib.Decide.{ℕ-discrete, decLt}
 use lib.Dec.{lit<}
 use lib.ListN.{length}
 use lib.Seq.{sets}
-use Rattle.bicycle_common.specs.declared.Pauli.{Pauli}
-use Rattle.bicycle_common.specs.declared.Pauli.the-variants.{I, X, Z, Y}
+use Rattle.bicycle_common.specs.declared.Pauli.the-variants.{X, Z, Y}
 use Rattle.bicycle_common.specs.declared.Refusal.the-variants.{TableLength, Matrix, StringRange, Identity, PivotSet, NoEntry, BadEntry, Room}
 use Rattle.bicycle_common.specs.declared.Outcome.the-variants.{Done}
 use Rattle.bicycle_common.specs.Refusals.{Told, refused}
@@ -22,21 +21,20 @@ use Rattle.natives.specs.Kept.{keptFor}
 use Rattle.shortest.specs.Graphs.{Has}
 use Rattle.table.specs.Bytes.{entry}
 use Rattle.table.specs.Entries.{depth, Names, named}
-use Rattle.table.specs.Plans.{Nonzero}
 use Rattle.table.specs.Answers.{isTable, given}
 use Rattle.table.proofs.Rules.{kept-for}
 use Rattle.lookup.specs.declared.LookupAnswer.{LookupAnswer}
 use Rattle.lookup.specs.declared.LookupAnswer.the-variants.{Is}
 use Rattle.lookup.specs.declared.MeasurementImpl.{MeasurementImpl}
-use Rattle.lookup.specs.Walks.{rotations, better, best, candidate, good, sound}
-use Rattle.lookup.specs.Answers.{toldLookup, twoBytes, Lookup, Leaves, planBy, planned, found, walked, exact, pivotFree, free, refusing}
+use Rattle.lookup.specs.Walks.{rotations, candidate, better, best, missing, judged, winner}
+use Rattle.lookup.specs.Answers.{toldLookup, twoBytes, Lookup, Leaves, planBy, planned, sought, lookedUp, exact, pivotFree}
 use Rattle.lookup.specs.Truth.{Implements, AnswersTruly, Truly}
-use Rattle.lookup.proofs.Walks.{better-native, sound-none, sound-some, better-second}
-use Rattle.lookup.proofs.Answers.{found-short, found-fits, walked-none, walked-good, walked-bad, best-walked, not-given, not-string, not-allowed, is-sought, exact-not, free-not, free-allowed}
-use Rattle.lookup.proofs.Truth.{exact-true, pivot-free-true}
-use Rattle.lookup.proofs.Ruled.{rule-good, planned-native, exact-walked, free-walked, free-planned}
+use Rattle.lookup.proofs.Walks.{better-native}
+use Rattle.lookup.proofs.Answers.{found-short, found-fits, sought-none, sought-bad, sought-found, not-given, not-string, not-allowed, exact-not, free-not}
+use Rattle.lookup.proofs.Truth.{looked-up-true}
+use Rattle.lookup.proofs.Ruled.{Askable, ask-sought, rule-judged, rule-planned, planned-native}
 use Rattle.promises.specs.Checks.{pairString, BuiltOrAccepted, Ruled, small, ruled-table}
-use Rattle.promises.specs.Demand3.{chosen, chosen-nonzero}
+use Rattle.promises.specs.Demand3.{chosen}
 
 -- ---- on any table
 
@@ -55,10 +53,10 @@ module _ (mx my t : List ℕ) (p : ℕ) (before : List ℕ) (m : MeasurementImpl
   }
 
   pub exact-is-true : Leaves (exact qubits side t mx my p (length before)) before (Is m) after → TruePlan mx my p before m after
-  exact-is-true = true-plan p (exact qubits side t mx my p (length before)) (exact-true qubits side t mx my p (length before))
+  exact-is-true = true-plan p (exact qubits side t mx my p (length before)) (looked-up-true false qubits side t mx my p (length before))
 
   pub pivot-free-is-true : Leaves (pivotFree qubits side t mx my p (length before)) before (Is m) after → TruePlan mx my (chosen t p) before m after
-  pivot-free-is-true = true-plan (chosen t p) (pivotFree qubits side t mx my p (length before)) (pivot-free-true qubits side t mx my p (length before))
+  pivot-free-is-true = true-plan (chosen t p) (pivotFree qubits side t mx my p (length before)) (looked-up-true true qubits side t mx my p (length before))
 
 -- a lookup's contract permits one answer and one buffer
 pub lookup-one : (o : Lookup) (before : List ℕ) (r r′ : LookupAnswer) (after after′ : List ℕ) → Leaves o before r after → Leaves o before r′ after′
@@ -100,43 +98,48 @@ module _ (mx my t : List ℕ) (ok : BuiltOrAccepted mx my t) where
       let d : depth (e (chosen t 0)) ≡ 0 = ap (λ (x : ℕ). depth (e x)) chosen-one ∙ one .0 in
       let n : named (e 1) ≡ keptFor f 1 = omega (arith, one .1) in
       let none : hasPivot qubits 0 ≡ false = unfold hasPivot in unfold letterAt in unfold bit in refl in
-      free-planned qubits side t mx my 0 room (ready .is-given) (small mx my) (ready .ruled) (lit< tt) (lit< tt) none has (omega (arith, d))
+      ask-sought qubits 0 true side t mx my room (lit< tt, none) (ready .is-given)
+      ∙ rule-planned qubits 0 (lit< tt) e f (small mx my) (ready .ruled) true room (lit< tt, none) has (omega (arith, d))
       ∙ ap (planned qubits f e) chosen-one
       ∙ planned-native qubits f e 1 (one .0)
       ∙ ap (λ (k : ℕ). planBy 1 k 0 1 []) n
 
-  walked-never-8 : (p room : ℕ) → Nonzero qubits p → toldLookup (walked qubits f (entry t) p room .answer) .number ≡ 8 → ⊥
-  walked-never-8 p room i = elim (ℕ-discrete (entry t p) 0) [
-    | yes z ↦ numbered 8 (walked-none qubits f (entry t) p room z) (λ n. omega arith)
-    | no h ↦ long (walked-good qubits f (entry t) p room h (rule-good qubits f (entry t) (small mx my) (ready .ruled) p i h))
-  ]
+  -- neither lookup is refused with 8
+  asked-never-8 : (any : Bool) (p room : ℕ) → Askable any qubits p → toldLookup (lookedUp any qubits side t mx my p room .answer) .number ≡ 8 → ⊥
+  asked-never-8 any p room a = by-missing (missing any qubits (entry t) p) refl
     where
-      long : walked qubits f (entry t) p room ≡ found qubits f (entry t) p room → toldLookup (walked qubits f (entry t) p room .answer) .number ≡ 8 → ⊥
-      long z = elim (decLt room (2 * depth (entry t p))) [
-        | yes l ↦ numbered 8 (z ∙ found-short qubits f (entry t) p room l) (λ n. omega arith)
-        | no g ↦ numbered 8 (z ∙ found-fits qubits f (entry t) p room (omega arith)) (λ n. omega arith)
-      ]
+      e : ℕ → ℕ
+      e = entry t
 
-  pub exact-never-8 : (p room : ℕ) → toldLookup (exact qubits side t mx my p room .answer) .number ≡ 8 → ⊥
-  exact-never-8 p room = elim (decLt p (4 ^ qubits)) [
-    | no g ↦ numbered 8 (not-string false qubits side t mx my p room (ready .is-given) (no-string qubits p (omega arith))) (λ n. omega arith)
-    | yes below ↦ elim (ℕ-discrete p 0) [
-      | yes z ↦ numbered 8 (not-allowed false qubits side t mx my p room (ready .is-given) (is-string qubits p below) Identity (exact-not qubits p z)) (λ n. omega arith)
-      | no some ↦ numbered 8 (exact-walked qubits side t mx my p room (ready .is-given) (record { below = below; some = some })) (walked-never-8 p room (record { below = below; some = some }))
-    ]
-  ]
+      to-table : lookedUp any qubits side t mx my p room ≡ sought qubits f e any p room
+      to-table = ask-sought qubits p any side t mx my room a (ready .is-given)
 
-  pub pivot-free-never-8 : (p room : ℕ) → toldLookup (pivotFree qubits side t mx my p room .answer) .number ≡ 8 → ⊥
-  pivot-free-never-8 p room = elim (decLt p (4 ^ qubits)) [
-    | no g ↦ numbered 8 (not-string true qubits side t mx my p room (ready .is-given) (no-string qubits p (omega arith))) (λ n. omega arith)
-    | yes below ↦ by-pivot below (hasPivot qubits p) refl
+      by-missing : (b : Bool) → missing any qubits e p ≡ b → toldLookup (lookedUp any qubits side t mx my p room .answer) .number ≡ 8 → ⊥
+      by-missing true z = numbered 8 (to-table ∙ sought-none qubits f e any p room z) (λ n. omega arith)
+      by-missing false z =
+          let w = winner any qubits e p in
+          let s = to-table ∙ sought-found qubits f e any p room z (rule-judged qubits p (lit< tt) e f (small mx my) (ready .ruled) any a z) in
+          elim (decLt room (2 * depth (e w))) [
+            | yes l ↦ numbered 8 (s ∙ found-short qubits f e w room l) (λ n. omega arith)
+            | no g ↦ numbered 8 (s ∙ found-fits qubits f e w room (omega arith)) (λ n. omega arith)
+          ]
+
+  pub never-8 : (any : Bool) (p room : ℕ) → toldLookup (lookedUp any qubits side t mx my p room .answer) .number ≡ 8 → ⊥
+  never-8 any p room = elim (decLt p (4 ^ qubits)) [
+    | no g ↦ numbered 8 (not-string any qubits side t mx my p room (ready .is-given) (no-string qubits p (omega arith))) (λ n. omega arith)
+    | yes below ↦ of-strings any below
   ]
     where
       by-pivot : p < 4 ^ qubits → (b : Bool) → hasPivot qubits p ≡ b → toldLookup (pivotFree qubits side t mx my p room .answer) .number ≡ 8 → ⊥
       by-pivot below true z = numbered 8 (not-allowed true qubits side t mx my p room (ready .is-given) (is-string qubits p below) PivotSet (free-not qubits p z)) (λ n. omega arith)
-      by-pivot below false z =
-          numbered 8 (free-walked qubits side t mx my p room (ready .is-given) (small mx my) (ready .ruled) (lit< tt) below z)
-          (walked-never-8 (chosen t p) room (chosen-nonzero mx my t ok p below z))
+      by-pivot below false z = asked-never-8 true p room (below, z)
+
+      of-strings : (any : Bool) → p < 4 ^ qubits → toldLookup (lookedUp any qubits side t mx my p room .answer) .number ≡ 8 → ⊥
+      of-strings true below = by-pivot below (hasPivot qubits p) refl
+      of-strings false below = elim (ℕ-discrete p 0) [
+        | yes z ↦ numbered 8 (not-allowed false qubits side t mx my p room (ready .is-given) (is-string qubits p below) Identity (exact-not qubits p z)) (λ n. omega arith)
+        | no some ↦ asked-never-8 false p room (record { below = below; some = some })
+      ]
 
 -- ---- refusals
 
@@ -166,59 +169,38 @@ module _ (mx my t : List ℕ) (p room : ℕ) where
     no-string-4 h =
         (same-told (not-string false qubits side t mx my p room g (no-string qubits p h)), same-told (not-string true qubits side t mx my p room g (no-string qubits p h)))
 
-    -- the exact lookup: 5 for the identity, 7 for value 0, 8 for a bad walk, 9 with the length needed
+    -- 5 for the exact lookup of the identity, 6 for a pivot-free one with a letter on the pivot
     pub identity-5 : p ≡ 0 → exactly ≡ refused 4 Identity
     identity-5 z = same-told (not-allowed false qubits side t mx my p room g (is-string qubits p (subst (λ (x : ℕ). x < 4 ^ qubits) (sym z) (lit< tt))) Identity (exact-not qubits p z))
 
-    module _ (i : Nonzero qubits p) where
-      to-walk : exact qubits side t mx my p room ≡ walked qubits strings (entry t) p room
-      to-walk = exact-walked qubits side t mx my p room g i
+    pub pivot-set-6 : p < 4 ^ qubits → hasPivot qubits p ≡ true → freely ≡ refused 4 PivotSet
+    pivot-set-6 below b = same-told (not-allowed true qubits side t mx my p room g (is-string qubits p below) PivotSet (free-not qubits p b))
 
-      pub no-entry-7 : entry t p ≡ 0 → exactly ≡ refused 4 NoEntry
-      no-entry-7 z = same-told (to-walk ∙ walked-none qubits strings (entry t) p room z)
+    -- both, with any letter on the pivot or none: 7 for value 0, at p or at all three; 8 for a bad walk, from p or from any candidate with an
+    -- entry; 9 with the length needed
+    module _ (any : Bool) (a : Askable any qubits p) where
+      abbrev e : ℕ → ℕ
+      e = entry t
 
-      module _ (h : Has (entry t) p) where
-        pub bad-walk-8 : good qubits strings (entry t) p ≡ false → exactly ≡ refused 4 BadEntry
-        bad-walk-8 b = same-told (to-walk ∙ walked-bad qubits strings (entry t) p room h b)
+      to-table : lookedUp any qubits side t mx my p room ≡ sought qubits strings e any p room
+      to-table = ask-sought qubits p any side t mx my room a g
 
-        pub no-room-9 : good qubits strings (entry t) p ≡ true → room < 2 * depth (entry t p) → exactly ≡ refused 4 (Room (2 * depth (entry t p)))
-        no-room-9 w l = same-told (to-walk ∙ walked-good qubits strings (entry t) p room h w ∙ found-short qubits strings (entry t) p room l)
+      abbrev told : Told
+      told = toldLookup (lookedUp any qubits side t mx my p room .answer)
 
-        pub else-planned : good qubits strings (entry t) p ≡ true → 2 * depth (entry t p) ≤ room → exact qubits side t mx my p room ≡ planned qubits strings (entry t) p
-        else-planned w l = to-walk ∙ walked-good qubits strings (entry t) p room h w ∙ found-fits qubits strings (entry t) p room l
+      pub no-entry-7 : missing any qubits e p ≡ true → told ≡ refused 4 NoEntry
+      no-entry-7 z = same-told (to-table ∙ sought-none qubits strings e any p room z)
 
-    -- the pivot-free lookup: 6 for a letter on the pivot, 7 where no candidate has an entry, 8 where one with an entry has a bad walk
-    module _ (below : p < 4 ^ qubits) where
-      pub pivot-set-6 : hasPivot qubits p ≡ true → freely ≡ refused 4 PivotSet
-      pivot-set-6 b = same-told (not-allowed true qubits side t mx my p room g (is-string qubits p below) PivotSet (free-not qubits p b))
+      module _ (some : missing any qubits e p ≡ false) where
+        pub bad-walk-8 : judged any qubits strings e p ≡ false → told ≡ refused 4 BadEntry
+        bad-walk-8 b = same-told (to-table ∙ sought-bad qubits strings e any p room some b)
 
-      module _ (b : hasPivot qubits p ≡ false) where
-        to-best : pivotFree qubits side t mx my p room ≡ free qubits strings (entry t) p room
-        to-best = is-sought true qubits side t mx my p room g (is-string qubits p below) (free-allowed qubits p b)
+        module _ (b : judged any qubits strings e p ≡ true) where
+          abbrev w : ℕ
+          w = winner any qubits e p
 
-        pub no-candidate-7 : ((l : Pauli) → (l ≡ I → ⊥) → entry t (candidate qubits p l) ≡ 0) → freely ≡ refused 4 NoEntry
-        no-candidate-7 h =
-            let e = entry t in
-            let x : e (candidate qubits p X) ≡ 0 = h X (λ z. let n : _≡_ {A = ℕ} 0 1 = cc in omega arith) in
-            let z : e (candidate qubits p Z) ≡ 0 = h Z (λ z. let n : _≡_ {A = ℕ} 0 1 = cc in omega arith) in
-            let y : e (candidate qubits p Y) ≡ 0 = h Y (λ z. let n : _≡_ {A = ℕ} 0 1 = cc in omega arith) in
-            let last : chosen t p ≡ candidate qubits p Y =
-            ap (λ (a : ℕ). better e a (candidate qubits p Y)) (better-second e (candidate qubits p X) (candidate qubits p Z) x)
-            ∙ better-second e (candidate qubits p Z) (candidate qubits p Y) z in
-            same-told (to-best
-            ∙ best-walked qubits strings e (candidate qubits p X) (candidate qubits p Z) (candidate qubits p Y) room
-            (sound-none qubits strings e (candidate qubits p X) x) (sound-none qubits strings e (candidate qubits p Z) z) (sound-none qubits strings e (candidate qubits p Y) y)
-            ∙ walked-none qubits strings e (chosen t p) room (ap e last ∙ y))
+          pub no-room-9 : room < 2 * depth (e w) → told ≡ refused 4 (Room (2 * depth (e w)))
+          no-room-9 l = same-told (to-table ∙ sought-found qubits strings e any p room some b ∙ found-short qubits strings e w room l)
 
-        pub bad-candidate-8 : (l : Pauli) → (l ≡ I → ⊥) → Has (entry t) (candidate qubits p l) → good qubits strings (entry t) (candidate qubits p l) ≡ false
-            → freely ≡ refused 4 BadEntry
-        bad-candidate-8 l i h w = same-told (to-best ∙ ap (λ (a : Bool). cond a (walked qubits strings (entry t) (chosen t p) room) (refusing BadEntry)) (by-letter l i (sound-some qubits strings (entry t) (candidate qubits p l) h ∙ w)))
-          where
-            s : Pauli → Bool
-            s l = sound qubits strings (entry t) (candidate qubits p l)
-
-            by-letter : (l : Pauli) → (l ≡ I → ⊥) → s l ≡ false → (s X && s Z && s Y) ≡ false
-            by-letter I i z = absurd (i refl)
-            by-letter X i z = rw z
-            by-letter Z i z = ap (λ (a : Bool). s X && a && s Y) z ∙ ap (λ (a : Bool). a && s Y) (and-false (s X))
-            by-letter Y i z = ap (λ (a : Bool). s X && s Z && a) z ∙ and-false (s X && s Z)
+          pub else-planned : 2 * depth (e w) ≤ room → lookedUp any qubits side t mx my p room ≡ planned qubits strings e w
+          else-planned l = to-table ∙ sought-found qubits strings e any p room some b ∙ found-fits qubits strings e w room l
