@@ -64,7 +64,7 @@ module _ (q : ℕ) (f e : ℕ → ℕ) (small : (n : ℕ) → f n < 4 ^ q) (ok :
         (s .0, s .1, omega (arith, s .2, r .2))
 
     -- every walk from an entry is good
-    pub rule-good : good q f e p ≡ true
+    rule-good : good q f e p ≡ true
     rule-good = good-all q f e p (λ k l. stand k (ruled k l))
       where
         stand : (k : ℕ) → Nonzero q (down q f e p k) × Has e (down q f e p k) × (depth (e (down q f e p k)) + k ≡ depth (e p)) → At q f e p k ≡ true

@@ -41,6 +41,13 @@ valid-in q f v x some h =
     let high : ltb (field v) (natives + 1) ≡ true = lt-ltb (field v) (natives + 1) (omega arith) in
     rw (low, high)
 
+-- of the right depth it is enough to be valid
+pub stands-deep : (q : ℕ) (f : ℕ → ℕ) (v d x : ℕ) → depth v ≡ d → stands q f v d x ≡ valid q f v x
+stands-deep q f v d x z = rw (eq-eqb (depth v) d z)
+
+pub stands-other : (q : ℕ) (f : ℕ → ℕ) (v d x : ℕ) → (depth v ≡ d → ⊥) → stands q f v d x ≡ false
+stands-other q f v d x h = rw (ne-eqb (depth v) d h)
+
 holds : (b : Bool) → T b → b ≡ true
 holds true t = refl
 holds false t = absurd t
@@ -222,7 +229,7 @@ module _ (e : ℕ → ℕ) (x z y : ℕ) where
   best-least-third h = better-least-second e (better e x z) y h
 
   -- where one of them has an entry, so has the best
-  pub best-some : noneHas e x z y ≡ false → e (best e x z y) ≡ 0 → ⊥
+  best-some : noneHas e x z y ≡ false → e (best e x z y) ≡ 0 → ⊥
   best-some h = elim (ℕ-discrete (e x) 0) [
     | no k ↦ best-least-first k .0
     | yes a ↦ elim (ℕ-discrete (e z) 0) [
