@@ -160,8 +160,9 @@ fn found(table: &[u8], strings: &[u32; 540], p: u32, out: &mut [u8]) -> LookupAn
     }
     let bottom = write_rotations(table, strings, p, d, out);
     let n = table::entry_unchecked(table, bottom) % 1024 - 1;
+    let number = n as u16;
     let base = NativeMeasurementImpl {
-        native: NativeNumber(n as u16),
+        native: NativeNumber(number),
         measures: PauliString(bottom),
     };
     LookupAnswer::Is(MeasurementImpl {

@@ -66,8 +66,8 @@ sub-n c =
     let v : c .entry-unchecked2 .result ≡ e s (bottom qubits (f s) (e s) (s .args .p)) = c .entry-unchecked2 .ensures ∙ ap (e s) (c .before .before .before .write-rotations .ensures .0) in
     omega (arith, v, names s .some)
 
-cast-t17 : tie.Need-cast-t17
-cast-t17 c = search needs
+cast-number : tie.Need-cast-number
+cast-number c = search needs
 
 same-length : tie.Need-same-length
 same-length c = search needs
@@ -94,6 +94,6 @@ found-spec =
     write-rotations-requires
     entry-unchecked-requires-2
     sub-n
-    cast-t17
+    cast-number
     same-length
     returns-2)
