@@ -2,7 +2,6 @@
 -- room. Assumes nothing.
 use mathlib.Core.Path.{_≡_, refl, sym, ap, subst, _∙_}
 use mathlib.Core.Bool.{Bool, true, false, _&&_, and-eq-true-iff}
-use mathlib.Core.Logic.{⊎-elim}
 use mathlib.Core.List.{List, []}
 use Prim.Native.Nat.{ℕ, zero, suc, _+_, _-_, _*_, _^_, _≤_, _<_}
 use native.Mathlib.Omega.{arith}
@@ -21,25 +20,21 @@ use Rattle.measurement.specs.Matrices.{ofBytes}
 use Rattle.measurement.specs.Measures.{nativeString}
 use Rattle.shortest.specs.Graphs.{Has}
 use Rattle.table.specs.Bytes.{entry}
-use Rattle.table.specs.Entries.{depth, KeptFor, leads, named}
+use Rattle.table.specs.Entries.{depth, leads, named}
 use Rattle.table.specs.Rules.{Deep, Rule}
 use Rattle.table.specs.Plans.{Nonzero}
 use Rattle.table.specs.Answers.{given}
-use Rattle.table.proofs.Rules.{native-or-none, rule-valid}
+use Rattle.table.proofs.Rules.{deep-none, rule-valid}
 use Rattle.lookup.specs.Walks.{next, down, good, sound, candidate, missing, judged, winner}
 use Rattle.lookup.specs.Answers.{planBy, planned, allowed, sought, lookedUp}
 use Rattle.lookup.proofs.Walks.{down-none, At, good-all, sound-none, sound-some, best-of, candidate-string}
 use Rattle.lookup.proofs.Answers.{found-fits, sought-found, is-sought, exact-allowed, free-allowed}
 
 module _ (q : ℕ) (f e : ℕ → ℕ) (small : (n : ℕ) → f n < 4 ^ q) (ok : (p : ℕ) → p < 4 ^ q → Rule q f e p) where
-  -- a string of depth above 0 is no native
-  deep-none : (x : ℕ) → Nonzero q x → 1 ≤ depth (e x) → (n : ℕ) × KeptFor f x n → ⊥
-  deep-none x i l m = omega (arith, ok x (i .below) .native-string (i .some) (m .0) (m .1) .0)
-
-  -- such a string leads down by one
+  -- a string of depth above 0 leads down by one
   steps-down : (x : ℕ) → Nonzero q x → Has e x → 1 ≤ depth (e x) → Nonzero q (next q f e x) × Has e (next q f e x) × (depth (e (next q f e x)) + 1 ≡ depth (e x))
   unfolding next
-  steps-down x i h l = ⊎-elim (λ m. absurd (deep-none x i l m)) (λ none. down-by (ok x (i .below) .other (i .some) none h)) (native-or-none f x)
+  steps-down x i h l = down-by (ok x (i .below) .other (i .some) (deep-none q f small e ok x i l) h)
     where
       down-by : Deep q f e x → Nonzero q (leads q f x (named (e x))) × Has e (leads q f x (named (e x))) × (depth (e (leads q f x (named (e x)))) + 1 ≡ depth (e x))
       down-by d =

@@ -57,7 +57,7 @@ module _ (q : ℕ) (f : ℕ → ℕ) (small : (n : ℕ) → f n < 4 ^ q) (e : �
     native-entry p n b = ok p (b .string .below) .native-string (b .string .some) n (b .keeps)
 
     -- a string of depth above 0 is no native
-    deep-none : (p : ℕ) → Nonzero q p → 1 ≤ depth (e p) → NoNative f p
+    pub deep-none : (p : ℕ) → Nonzero q p → 1 ≤ depth (e p) → NoNative f p
     deep-none p i l = none-kept f p (λ n k. omega (arith, native-entry p n (record { string = i; keeps = k }) .0))
 
     rule-near : (p n : ℕ) → Nonzero q p → Rotation q f n → Has e (leads q f p n) → Has e p × (depth (e p) ≤ depth (e (leads q f p n)) + 1)
