@@ -1,5 +1,5 @@
 -- Answers as flat structs, and that each tells the same as the enum. Assumes nothing.
-use mathlib.Core.Path.{_≡_, refl}
+use mathlib.Core.Path.{_≡_, refl, sym, ap, _∙_}
 use mathlib.Core.List.{List, [], _∷_}
 use Prim.Native.Nat.{ℕ}
 use Rattle.bicycle_common.specs.Refusals.{Told, numberOf, neededOf}
@@ -8,7 +8,8 @@ use Rattle.builder.specs.declared.BuildAnswer.the-variants.{Is as Built, Refuse
 use Rattle.builder.specs.Answers.{After, toldBuild}
 use Rattle.table_check.specs.declared.CheckAnswer.{CheckAnswer}
 use Rattle.table_check.specs.declared.CheckAnswer.the-variants.{Accepted, Rejected, Refused as NotChecked}
-use Rattle.table_check.specs.Answers.{toldCheck}
+use Rattle.table_check.specs.Answers.{toldCheck, Checked}
+use Rattle.table_check.proofs.Answers.{checked-one}
 use Rattle.lookup.specs.declared.LookupAnswer.{LookupAnswer}
 use Rattle.lookup.specs.declared.LookupAnswer.the-variants.{Is as Found, Refused as NotFound}
 use Rattle.lookup.specs.Answers.{Lookup, Leaves, toldLookup}
@@ -63,6 +64,11 @@ pub record CheckTells (permits : CheckAnswer → Type 0) (r : CheckResult) : Typ
   pub answer : CheckAnswer
   pub permitted : permits answer
   pub flat : r ≡ flatCheck answer
+
+-- two answers of `bicycle_check` that its contract permits are the same
+pub check-one : (q s : ℕ) (t mx my : List ℕ) (r r′ : CheckResult) → CheckTells (Checked q s t mx my) r → CheckTells (Checked q s t mx my) r′ → r ≡ r′
+check-one q s t mx my r r′ a b =
+    a .flat ∙ ap flatCheck (checked-one q s t mx my (a .answer) (b .answer) (a .permitted) (b .permitted)) ∙ sym (b .flat)
 
 -- ---- the lookups
 
