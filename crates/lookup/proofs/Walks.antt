@@ -1,7 +1,7 @@
 -- Laws of the walk: its places one by one, that it stays among the strings, and that a good walk has a valid entry of the right depth at every
 -- place. Assumes nothing.
 use mathlib.Core.Path.{_≡_, refl, sym, ap, ap₂, subst, _∙_}
-use mathlib.Core.Bool.{Bool, true, false, cond, _&&_, and-eq-true-iff, true≢false}
+use mathlib.Core.Bool.{Bool, true, false, cond, _&&_, and-eq-true-iff, and-false, true≢false}
 use Prim.Native.Nat.{ℕ, zero, suc, _+_, _-_, _^_, _≤_, _<_}
 use native.Mathlib.Numerals.{add-one}
 use native.Mathlib.Omega.{arith}
@@ -47,6 +47,9 @@ stands-deep q f v d x z = rw (eq-eqb (depth v) d z)
 
 pub stands-other : (q : ℕ) (f : ℕ → ℕ) (v d x : ℕ) → (depth v ≡ d → ⊥) → stands q f v d x ≡ false
 stands-other q f v d x h = rw (ne-eqb (depth v) d h)
+
+pub stands-invalid : (q : ℕ) (f : ℕ → ℕ) (v d x : ℕ) → valid q f v x ≡ false → stands q f v d x ≡ false
+stands-invalid q f v d x z = ap (λ (b : Bool). eqb (depth v) d && b) z ∙ and-false (eqb (depth v) d)
 
 holds : (b : Bool) → T b → b ≡ true
 holds true t = refl

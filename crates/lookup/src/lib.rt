@@ -25,7 +25,7 @@ ghost use Rattle.measurement.specs.Matrices.{side, ofBytes, isBytes};
 ghost use Rattle.measurement.specs.Measures.{nativeString};
 ghost use Rattle.natives.specs.Arrays.{at, Held};
 ghost use Rattle.table.specs.Bytes.{tableLength, entry};
-ghost use Rattle.table.specs.Entries.{depth, leads, valid};
+ghost use Rattle.table.specs.Entries.{depth, field, named, leads, valid};
 ghost use Rattle.lookup.specs.Walks;
 ghost use Rattle.lookup.specs.Walks.{stands, good, bottom, rotations, sound, noneHas, allSound, missing, judged};
 ghost use Rattle.lookup.specs.Answers.{twoBytes, Leaves, found, allowed, sought, lookedUp, exact, pivotFree};
@@ -233,11 +233,58 @@ fn none_has(table: &[u8], x: u32, z: u32, y: u32) -> bool
     a + b + c == 0
 }
 
+// Whether v has depth d, and a field that names a native.
+fn names(v: u32, d: u32) -> bool
+    ensures { λ r. ⌜ (r ≡ true → (0 < field v) × (named v < natives)) × (r ≡ false → (f : ℕ → ℕ) (x : ℕ) → stands qubits f v d x ≡ false) ⌝ }
+{
+    if v / 1024 != d {
+        return false;
+    }
+    let n = v % 1024;
+    if n == 0 {
+        return false;
+    }
+    if 540 < n {
+        return false;
+    }
+    true
+}
+
+// False only where p has an entry and a bad walk: the walk down, with no test but of depths and fields. There is so little
+// to do at each place that the reads of one walk overlap with those of the next.
+fn falls(table: &[u8], strings: &[u32; 540], p: u32) -> bool
+    requires { ⌜ (length (now table) ≡ tableLength qubits) × (p < 4 ^ qubits) × Held qubits (now strings) ⌝ }
+    ensures { λ r. ⌜ (r ≡ false → sound qubits (at (now (strings .entry))) (entry (now (table .entry))) p ≡ false) ⌝ }
+{
+    let mut at = p;
+    let mut v = table::entry_unchecked(table, p);
+    let d = v / 1024;
+    let mut k: u32 = 0;
+    while k < d {
+        if !names(v, d - k) {
+            return false;
+        }
+        at = next(strings, at, v % 1024 - 1);
+        v = table::entry_unchecked(table, at);
+        k += 1;
+    }
+    true
+}
+
 // Whether each of three strings has no entry, or a good walk.
 fn all_sound(table: &[u8], strings: &[u32; 540], x: u32, z: u32, y: u32) -> bool
     requires { ⌜ (length (now table) ≡ tableLength qubits) × (x < 4 ^ qubits) × (z < 4 ^ qubits) × (y < 4 ^ qubits) × Held qubits (now strings) ⌝ }
     ensures { λ r. ⌜ r ≡ allSound qubits (at (now (strings .entry))) (entry (now (table .entry))) x z y ⌝ }
 {
+    if !falls(table, strings, x) {
+        return false;
+    }
+    if !falls(table, strings, z) {
+        return false;
+    }
+    if !falls(table, strings, y) {
+        return false;
+    }
     if !is_sound(table, strings, x) {
         return false;
     }
