@@ -1,9 +1,9 @@
 -- `lookup::is_good` meets its contract: the string and the value are those of the walk's place, and every place before it stands. Assumes
 -- nothing.
-use mathlib.Core.Path.{_≡_, sym, ap, subst, _∙_}
+use mathlib.Core.Path.{_≡_, sym, ap, _∙_}
 use borrow.Author.Needs.{needs}
 use mathlib.Core.Bool.{true}
-use Prim.Native.Nat.{ℕ, _+_, _-_, _/_, _^_, _≤_, _<_}
+use Prim.Native.Nat.{ℕ, _-_, _/_, _≤_, _<_}
 use borrow.Author.Tests.{not-true, not-false}
 use borrow.Author.Count.{below-more}
 use native.Mathlib.Omega.{arith}
@@ -11,13 +11,13 @@ use Rattle.pauli_string.specs.Strings.{qubits}
 use Rattle.natives.specs.Arrays.{at as string}
 use Rattle.table.specs.Bytes.{entry}
 use Rattle.table.specs.Entries.{depth}
-use Rattle.lookup.specs.Walks.{stands, down}
-use Rattle.lookup.proofs.Walks.{Valid, stands-valid, down-none, down-step, down-string, At, at-place, good-not, good-last}
+use Rattle.lookup.specs.Walks.{stands}
+use Rattle.lookup.proofs.Walks.{Valid, stands-valid, At, good-not, good-last, Place, place-first, place-tested, next-inside, place-next}
 use Rattle.lookup.proofs.is_good.Statement.{statement}
 use Rattle.lookup.proofs.is_good.Tie as tie
 
 abbrev Inv-loop : tie.InvT-loop
-Inv-loop table strings p at₀ v₀ d k₀ at v k = (k ≤ d) × (at ≡ down qubits (string strings) (entry table) p k) × (v ≡ entry table at) × ((j : ℕ) → j < k → At qubits (string strings) (entry table) p j ≡ true)
+Inv-loop table strings p at₀ v₀ d k₀ at v k = (k ≤ d) × Place qubits (string strings) (entry table) p k at v × ((j : ℕ) → j < k → At qubits (string strings) (entry table) p j ≡ true)
 
 abbrev μ-loop : tie.MeasureT-loop
 μ-loop table strings p at₀ v₀ d k₀ at v k = d - k
@@ -36,15 +36,9 @@ p c = c .before .before .before .args .p
 deep : (c : tie.At-loop Inv-loop μ-loop) → c .before .entry-unchecked .result / 1024 ≡ depth (e c (p c))
 deep c = ap depth (c .before .entry-unchecked .ensures)
 
--- the string at the loop's place is a string
-inside : (c : tie.At-loop Inv-loop μ-loop) → c .loop .at < 4 ^ qubits
-inside c =
-    let s = c .before .before .before in
-    subst (λ (x : ℕ). x < 4 ^ qubits) (sym (c .loop .inv .1)) (down-string qubits (f c) (e c) (p c) (s .pre .2 .small) (s .pre .1) (c .loop .k))
-
--- what is tested there is the place of the walk
-place : (c : tie.At-loop Inv-loop μ-loop) → stands qubits (f c) (c .loop .v) (c .before .entry-unchecked .result / 1024 - c .loop .k) (c .loop .at) ≡ At qubits (f c) (e c) (p c) (c .loop .k)
-place c = at-place qubits (f c) (e c) (p c) (c .loop .at) (c .loop .v) (c .before .entry-unchecked .result / 1024) (c .loop .k) (c .loop .inv .1) (c .loop .inv .2) (deep c)
+-- what is tested is the place of the walk
+tested : (c : tie.At-loop Inv-loop μ-loop) → stands qubits (f c) (c .loop .v) (c .before .entry-unchecked .result / 1024 - c .loop .k) (c .loop .at) ≡ At qubits (f c) (e c) (p c) (c .loop .k)
+tested c = place-tested qubits (f c) (e c) (p c) (c .before .entry-unchecked .result / 1024) (c .loop .k) (c .loop .at) (c .loop .v) (c .loop .inv .1) (deep c)
 
 -- where it stands, the value names a native
 names : (c : tie.After-stands Inv-loop μ-loop) → c .stands .result ≡ true → Valid qubits (f (c .before .before)) (c .before .before .loop .v) (c .before .before .before .entry-unchecked .result / 1024 - c .before .before .loop .k) (c .before .before .loop .at)
@@ -54,7 +48,9 @@ entry-unchecked-requires : tie.Need-entry-unchecked-requires Inv-loop μ-loop
 entry-unchecked-requires c κs = search needs
 
 loop-holds : tie.Need-loop-holds Inv-loop μ-loop
-loop-holds c = (omega arith, sym (down-none qubits (string (c .before .before .args .strings .now)) (entry (c .before .before .args .table .now)) (c .before .before .args .p)), c .entry-unchecked .ensures, λ j l. absurd (omega arith))
+loop-holds c =
+    let s = c .before .before in
+    (omega arith, place-first qubits (string (s .args .strings .now)) (entry (s .args .table .now)) (s .args .p) (c .entry-unchecked .result) (s .pre .1) (c .entry-unchecked .ensures), λ j l. absurd (omega arith))
 
 sub-stands : tie.Need-sub-stands Inv-loop μ-loop
 sub-stands c = omega (arith, c .loop-test .taken)
@@ -65,20 +61,19 @@ stands-requires c κs = c .before .before .before .before .pre .2
 returns : tie.Need-returns Inv-loop μ-loop
 returns c =
     let l = c .before .before .before in
-    sym (good-not qubits (f l) (e l) (p l) (l .loop .k) (omega (arith, c .before .before .loop-test .taken, deep l)) (sym (place l) ∙ sym (c .before .stands .ensures) ∙ not-true _ (c .if1 .taken)))
+    sym (good-not qubits (f l) (e l) (p l) (l .loop .k) (omega (arith, c .before .before .loop-test .taken, deep l)) (sym (tested l) ∙ sym (c .before .stands .ensures) ∙ not-true _ (c .if1 .taken)))
 
 sub-next : tie.Need-sub-next Inv-loop μ-loop
 sub-next c = names (c .before) (not-false _ (c .if1 .left)) .some
 
 next-requires : tie.Need-next-requires Inv-loop μ-loop
-next-requires c κs = (inside (c .before .before .before), names (c .before) (not-false _ (c .if1 .left)) .below, c .before .before .before .before .before .before .pre .2)
+next-requires c κs = (c .before .before .before .loop .inv .1 .inside, names (c .before) (not-false _ (c .if1 .left)) .below, c .before .before .before .before .before .before .pre .2)
 
 entry-unchecked-requires-2 : tie.Need-entry-unchecked-requires-2 Inv-loop μ-loop
 entry-unchecked-requires-2 c κs =
     let l = c .before .before .before .before in
     let s = c .before .before .before .before .before .before .before in
-    let w : c .next .result ≡ down qubits (f l) (e l) (p l) (l .loop .k + 1) = c .next .ensures ∙ down-step qubits (f l) (e l) (p l) (l .loop .at) (l .loop .v) (l .loop .k) (l .loop .inv .1) (l .loop .inv .2) in
-    (subst (λ (x : ℕ). x < 4 ^ qubits) (sym w) (down-string qubits (f l) (e l) (p l) (s .pre .2 .small) (s .pre .1) (l .loop .k + 1)), s .pre .0)
+    (next-inside qubits (f l) (e l) (p l) (s .pre .2 .small) (l .loop .k) (l .loop .at) (l .loop .v) (c .next .result) (l .loop .inv .1) (c .next .ensures), s .pre .0)
 
 add-k : tie.Need-add-k Inv-loop μ-loop
 add-k c = search needs
@@ -90,9 +85,8 @@ loop-again : tie.Need-loop-again Inv-loop μ-loop
 loop-again c =
     let l = c .before .before .before .before .before in (
       omega (arith, c .before .before .before .before .loop-test .taken),
-      c .before .next .ensures ∙ down-step qubits (f l) (e l) (p l) (l .loop .at) (l .loop .v) (l .loop .k) (l .loop .inv .1) (l .loop .inv .2),
-      c .entry-unchecked2 .ensures,
-      below-more (λ (j : ℕ). At qubits (f l) (e l) (p l) j ≡ true) (l .loop .k) (l .loop .inv .3) (sym (place l) ∙ sym (c .before .before .before .stands .ensures) ∙ not-false _ (c .before .before .if1 .left)),
+      place-next qubits (f l) (e l) (p l) (c .before .before .before .before .before .before .before .before .pre .2 .small) (l .loop .k) (l .loop .at) (l .loop .v) (c .before .next .result) (l .loop .inv .1) (c .before .next .ensures) (c .entry-unchecked2 .result) (c .entry-unchecked2 .ensures),
+      below-more (λ (j : ℕ). At qubits (f l) (e l) (p l) j ≡ true) (l .loop .k) (l .loop .inv .2) (sym (tested l) ∙ sym (c .before .before .before .stands .ensures) ∙ not-false _ (c .before .before .if1 .left)),
     )
 
 stands-requires-2 : tie.Need-stands-requires-2 Inv-loop μ-loop
@@ -103,10 +97,10 @@ returns-2 c =
     let l = c .before .before in
     let k : l .loop .k ≡ depth (e l (p l)) = omega (arith, l .loop .inv .0, c .before .loop-test .left, deep l) in
     let z : c .before .before .before .entry-unchecked .result / 1024 - l .loop .k ≡ 0 = omega (arith, l .loop .inv .0, c .before .loop-test .left) in
-    let all : (j : ℕ) → j < depth (e l (p l)) → At qubits (f l) (e l) (p l) j ≡ true = λ j h. l .loop .inv .3 j (omega arith) in
+    let all : (j : ℕ) → j < depth (e l (p l)) → At qubits (f l) (e l) (p l) j ≡ true = λ j h. l .loop .inv .2 j (omega arith) in
     c .stands2 .ensures
     ∙ ap (λ (m : ℕ). stands qubits (f l) (l .loop .v) m (l .loop .at)) (sym z)
-    ∙ place l
+    ∙ tested l
     ∙ ap (At qubits (f l) (e l) (p l)) k
     ∙ sym (good-last qubits (f l) (e l) (p l) all)
 
