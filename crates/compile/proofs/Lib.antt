@@ -1,0 +1,2 @@
+-- Laws of `compile`.
+pub mod Expansions

@@ -1,0 +1,2 @@
+-- What the contracts of `compile` cite.
+pub mod Expansions

@@ -1,0 +1,3 @@
+-- Laws of `text`.
+pub mod Puts
+pub mod Decimals
