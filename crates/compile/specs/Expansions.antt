@@ -64,11 +64,14 @@ toldRotation (NoRotation r) = refused 15 r
 
 -- ---- the text of an expansion
 
+abbrev pub space : ℕ
+space = code " "
+
 -- texts with a space between each and the next
 unfoldable pub spaced : List (List ℕ) → List ℕ
 spaced [] = []
 spaced (t ∷ []) = t
-spaced (t ∷ u ∷ ts) = t ++ code " " ∷ spaced (u ∷ ts)
+spaced (t ∷ u ∷ ts) = t ++ space ∷ spaced (u ∷ ts)
 
 abbrev pub expansionText : List BicycleISA → List ℕ
 expansionText is = spaced (map instructionText is)

@@ -2,5 +2,6 @@
 pub mod Bytes
 pub mod Entries
 pub mod Rules
+pub mod Applied
 pub mod Plans
 pub mod Answers

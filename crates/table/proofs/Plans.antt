@@ -6,8 +6,7 @@ use mathlib.Core.List.{List, [], _∷_, _++_}
 use Prim.Native.Nat.{ℕ, _+_, _^_, _≤_, _<_}
 use native.Mathlib.Omega.{arith}
 use lib.ListN.{length, length-append}
-use Rattle.pauli_string.specs.Strings.{blank, hasPivot, rotate}
-use Rattle.pauli_string.proofs.Commutation.{conj-zero}
+use Rattle.pauli_string.specs.Strings.{hasPivot, rotate}
 use Rattle.native_measurement.specs.Natives.{natives}
 use Rattle.natives.specs.Kept.{keptFor, Keeper}
 use Rattle.natives.proofs.Kept.{keeper-for}
@@ -16,6 +15,7 @@ use Rattle.shortest.proofs.Shortest.{least, reached}
 use Rattle.table.specs.Entries.{depth, Rotation, leads}
 use Rattle.table.specs.Rules.{Rule}
 use Rattle.table.proofs.Rules.{kept-for, rules}
+use Rattle.table.proofs.Applied.{applied-zero, applied-append}
 use Rattle.table.specs.Plans.{Nonzero, Base, graph, values, Plan, applied, All, Supported, Gives, Sequence}
 
 -- ---- from a sequence to a plan
@@ -40,17 +40,10 @@ module _ (q : ℕ) (f : ℕ → ℕ) (small : (n : ℕ) → f n < 4 ^ q) where
       let e : k + 1 + length ns ≡ k + length (n ∷ ns) = omega arith in
       subst (λ (j : ℕ). Plan q f small j (applied q f (leads q f x n) ns)) e (plan-on (k + 1) (leads q f x n) ns v (s .1))
 
-  -- nothing but the identity comes of the identity
-  applied-zero : (ns : List ℕ) → applied q f 0 ns ≡ 0
-  applied-zero [] = refl
-  applied-zero (n ∷ ns) =
-      let z : leads q f 0 n ≡ 0 = unfold rotate in conj-zero q (blank q (f n)) in
-      ap (λ (x : ℕ). applied q f x ns) z ∙ applied-zero ns
-
   -- what a sequence gives has a plan of that length
   sequence-plan : (b : ℕ) (ns : List ℕ) (p : ℕ) → Gives q f b ns p → (p ≡ 0 → ⊥) → Plan q f small (length ns) p
   sequence-plan b ns p g some =
-      let nonzero : f b ≡ 0 → ⊥ = λ z. some (sym (g .gives) ∙ ap (λ (x : ℕ). applied q f x ns) z ∙ applied-zero ns) in
+      let nonzero : f b ≡ 0 → ⊥ = λ z. some (sym (g .gives) ∙ ap (λ (x : ℕ). applied q f x ns) z ∙ applied-zero q f ns) in
       let base : Base q f (f b) (keptFor f (f b)) = record {
         string = record { below = small b; some = nonzero };
         keeps = kept-for f (f b) b (g .base-below) refl;
@@ -66,10 +59,6 @@ module _ (q : ℕ) (f : ℕ → ℕ) (small : (n : ℕ) → f n < 4 ^ q) where
       least (graph q f small) (steps (graph q f small)) values e (rules q f small e ok) p (length ns) (sequence-plan b ns p g some)
 
   -- ---- and back
-
-  applied-append : (x : ℕ) (ns : List ℕ) (n : ℕ) → applied q f x (ns ++ (n ∷ [])) ≡ leads q f (applied q f x ns) n
-  applied-append x [] n = refl
-  applied-append x (m ∷ ns) n = applied-append (leads q f x m) ns n
 
   rotations-append : (ns : List ℕ) (n : ℕ) → All (Rotation q f) ns → Rotation q f n → All (Rotation q f) (ns ++ (n ∷ []))
   rotations-append [] n s r = (r, tt)
@@ -96,7 +85,7 @@ module _ (q : ℕ) (f : ℕ → ℕ) (small : (n : ℕ) → f n < 4 ^ q) where
         list = s .list ++ (n ∷ []);
         rotations = rotations-append (s .list) n (s .rotations) r;
         long = length-append (s .list) (n ∷ []) ∙ ap (λ (m : ℕ). m + 1) (s .long);
-        gives = applied-append (f (s .base)) (s .list) n ∙ ap (λ (y : ℕ). leads q f y n) (s .gives);
+        gives = applied-append q f (f (s .base)) (s .list) n ∙ ap (λ (y : ℕ). leads q f y n) (s .gives);
       }
 
   -- where every index meets its rule, an entry has a sequence of its depth

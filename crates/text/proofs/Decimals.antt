@@ -1,5 +1,5 @@
 -- A number is written digit by digit, the last behind those of a tenth; a digit is a byte from 48 to 57. Assumes nothing.
-use mathlib.Core.Bool.{Bool, true, false, _&&_, true≢false}
+use mathlib.Core.Bool.{true, false, _&&_, and-eq-true-iff}
 use mathlib.Core.List.{List, [], _∷_, _++_}
 use mathlib.Core.Path.{_≡_, refl, sym, _∙_}
 use Prim.Native.Nat.{ℕ, zero, suc, _+_, _-_, _*_, _/_, _%_, _^_, _<_, _≤_, pow·suc}
@@ -42,18 +42,14 @@ module _ {x y z : List ℕ} {place m r : ℕ} (n : ℕ) (h : 10 ≤ n) where
 
 -- ---- read
 
--- what two tests pass, each passes
-both : (a b : Bool) → (a && b) ≡ true → (a ≡ true) × (b ≡ true)
-both true b e = (refl, e)
-both false b e = absurd (true≢false (sym e))
-
+-- a digit, as bounds on its byte
 pub record Digit (b : ℕ) : Type 0 where
   pub low : 48 ≤ b
   pub high : b ≤ 57
 
 digit-between : (b : ℕ) → isDigit b ≡ true → Digit b
 digit-between b e =
-    let t = both (leb 48 b) (leb b 57) e in
+    let t = and-eq-true-iff (leb 48 b) (leb b 57) .0 e in
     record { low = leb-true 48 b (t .0); high = leb-true b 57 (t .1) }
 
 -- from place i on
@@ -75,7 +71,7 @@ module _ (s : List ℕ) (i : ℕ) where
     unfolding allDigits
     all-next a =
         let e : (isDigit (getD s i 0) && allDigits (drop (suc i) s)) ≡ true = rw (drop-cons s i 0 h) at a in
-        let t = both (isDigit (getD s i 0)) (allDigits (drop (suc i) s)) e in
+        let t = and-eq-true-iff (isDigit (getD s i 0)) (allDigits (drop (suc i) s)) .0 e in
         (digit-between (getD s i 0) (t .0), rw add-one (t .1))
 
     pub number-step : (v : ℕ) → numberFrom v (drop i s) ≡ numberFrom (10 * v + (getD s i 0 - 48)) (drop (i + 1) s)

@@ -1,3 +1,4 @@
 -- Laws of `text`.
 pub mod Puts
 pub mod Decimals
+pub mod Written

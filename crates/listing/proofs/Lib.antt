@@ -1,0 +1,7 @@
+-- Laws of `listing`.
+pub mod Texts
+pub mod Answers
+pub mod ShiftCount
+pub mod Lengths
+pub mod Example
+pub mod ReadBack

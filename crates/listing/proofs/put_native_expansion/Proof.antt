@@ -1,0 +1,29 @@
+-- `listing::put_native_expansion` meets its contract: three instructions, or none of a refusal. Assumes nothing.
+use native.Mathlib.Omega.{arith}
+use Rattle.listing.proofs.Texts.{none}
+use borrow.Author.Needs.{needs}
+use Rattle.listing.proofs.put_native_expansion.Statement.{statement}
+use Rattle.listing.proofs.put_native_expansion.Tie as tie
+
+enum-known-expansion : tie.Need-enum-known-expansion
+enum-known-expansion c = search needs
+
+put-three-requires : tie.Need-put-three-requires
+put-three-requires c κs = search needs
+
+enum-told : tie.Need-enum-told
+enum-told c = search needs
+
+same-length : tie.Need-same-length
+same-length c = search needs
+
+returns : tie.Need-returns
+returns c = rw (c .before .before .before .before .before .expansion .given .1) (c .before .before .put-three .ensures)
+
+returns-2 : tie.Need-returns-2
+returns-2 c = rw (c .enum-told .given .1) (none _ _, omega arith)
+
+pub put-native-expansion-spec : {M : Type 1} → statement M
+put-native-expansion-spec =
+    tie.close
+    (tie.spec enum-known-expansion put-three-requires enum-told same-length returns returns-2)
