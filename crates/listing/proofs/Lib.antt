@@ -3,5 +3,4 @@ pub mod Texts
 pub mod Answers
 pub mod ShiftCount
 pub mod Lengths
-pub mod Example
 pub mod ReadBack

@@ -28,25 +28,8 @@ use Rattle.reader.specs.Sound.{Sound}
 use Rattle.reader.proofs.Good.{matrix-shape}
 use Rattle.reader.proofs.Sound.{read-parts, read-sound}
 use Rattle.reader.proofs.Again.{Plain, plain-append, digits-plain, Whole, Wholes, lines-joined, line-parts, stating, native-again, rotations-again}
+use Rattle.listing.specs.Stated.{nativeOnly, stated, matrices}
 use Rattle.listing.specs.Listings.{lineOf, baseText, rotationText, rotationsText, shifts, listing, planText, textOf, output}
-
--- ---- what is kept of a text
-
--- a line that states a native
-abbrev pub statesNative : List ℕ → Bool
-statesNative l = begins (bytesOf "base=") l || begins (bytesOf "rotation=") l
-
--- such a line, and nothing of another
-abbrev pub nativeOnly : List ℕ → List ℕ
-nativeOnly l = cond (statesNative l) l []
-
--- these lines of a text
-unfoldable pub stated : List ℕ → List ℕ
-stated s = flatMap nativeOnly (lines s)
-
--- the first two lines of a text
-abbrev pub matrices : List ℕ → List ℕ
-matrices s = lineAt 0 (lines s) ++ lineAt 1 (lines s)
 
 -- ---- no byte of a value ends a line
 

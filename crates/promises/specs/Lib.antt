@@ -6,3 +6,5 @@ pub mod Tables
 pub mod Checks
 pub mod Demand3
 pub mod Lookups
+pub mod Expansions
+pub mod Listings

@@ -1,0 +1,150 @@
+-- What is promised of plans and their listings: document 01's own example and an input for each refusal, computed; what is read is a true
+-- plan; what a plan measures; a listing states its plan again; and how much of an input matters. Assumes nothing.
+use mathlib.Core.List.{List, [], _∷_, _++_, map}
+use mathlib.Core.Path.{_≡_, refl, sym, ap, subst, _∙_}
+use Prim.Native.Nat.{ℕ, _+_, _*_, _≤_}
+use Prim.Native.String.{String}
+use native.Mathlib.Omega.{arith}
+use lib.ListN.{length, getD, take, drop, replicate}
+use lib.Seq.{take-append-seam}
+use borrow.Author.Tests.{le-ltb}
+use Rattle.bicycle_common.specs.Bytes.{bytesOf}
+use Rattle.bicycle_common.specs.Letters.{rank, same, clash}
+use Rattle.bicycle_common.specs.Ranges.{sum, allBelow, listFrom}
+use Rattle.text.specs.Decimals.{digitsUpTo, decimal, allDigits, numberFrom, isNumber}
+use Rattle.pauli_string.specs.Strings.{qubits, bit, letterAt, clashes, commute, conj, pivotBits, blank, hasPivot, rotate}
+use Rattle.pauli_string.specs.Text.{letters, text}
+use Rattle.native_measurement.specs.declared.NativeNumber.{NativeNumber}
+use Rattle.native_measurement.specs.Natives.{nativeOf}
+use Rattle.measurement.specs.Matrices.{one, mul, pow, isBinary}
+use Rattle.measurement.specs.Measures.{action, packed, placed, measured as measuredOf, nativeString}
+use Rattle.table.specs.Plans.{Gives}
+use Rattle.compile.specs.Expansions.{rotationBy, spaced}
+use Rattle.reader.specs.Lines.{newline, lines, begins, isLine}
+use Rattle.reader.specs.Plans.{Plan, good, stringsOf, numbers, measured, matrixLine, nativeLine, rotationLine, rotationLines, planFrom, nativeLines, readLines, readPlan}
+use Rattle.reader.proofs.Sound.{read-gives}
+use Rattle.reader.proofs.Measured.{measures-zero, zero-base}
+use Rattle.reader.proofs.Bound.{read-length}
+use Rattle.listing.specs.declared.ListAnswer.{ListAnswer}
+use Rattle.listing.specs.declared.ListAnswer.the-variants.{Is}
+use Rattle.listing.specs.Listings.{baseText, rotationText, rotationsText, rotationShifts, shifts, listing, planText, output}
+use Rattle.listing.specs.Stated.{stated, matrices}
+use Rattle.listing.specs.Answers.{Written}
+use Rattle.listing.proofs.ShiftCount.{shifts-count}
+use Rattle.listing.proofs.Lengths.{output-length, output-bounded}
+use Rattle.listing.proofs.ReadBack.{read-back, list-back}
+
+-- ---- worked inputs
+
+-- lines, each with its end
+abbrev pub ended : List String → List ℕ
+ended [] = []
+ended (l ∷ ls) = bytesOf l ++ newline ∷ ended ls
+
+-- lines of input, and all that is printed for them
+pub record Row : Type 0 where
+  pub input : List String
+  pub printed : List String
+
+abbrev pub row : List String → List String → Row
+row is os = record { input = is; printed = os }
+
+abbrev x : String
+x = "mx=100000110000001000000100000010000001"
+
+abbrev y : String
+y = "my=100000010000001000000100000010000001"
+
+-- the example
+abbrev pub exampleInput : List String
+exampleInput = x ∷ y ∷ "base=440" ∷ "rotation=533" ∷ []
+
+abbrev pub exampleOutput : List String
+exampleOutput =
+    "measures=IIIIXYIIIIIX"
+    ∷ "count=1"
+    ∷ "shifts=6"
+    ∷ "base=440"
+    ∷ "expand=aut(4,5) meas(X,Z) aut(2,1)"
+    ∷ "rotation=533"
+    ∷ "expand=meas(X,I) aut(5,5) meas(Z,X) aut(1,1) meas(Y,I)"
+    ∷ []
+
+-- and the refusals: no line, a needless zero, a digit over 1 before a bad line, a number over 539, a pivotless rotation, nothing measured
+abbrev pub rows : List Row
+rows =
+    row exampleInput exampleOutput
+    ∷ row [] ("refused=12" ∷ [])
+    ∷ row (x ∷ y ∷ "base=044" ∷ []) ("refused=12" ∷ [])
+    ∷ row (x ∷ "my=200000010000001000000100000010000001" ∷ "base=1000" ∷ []) ("refused=3" ∷ [])
+    ∷ row (x ∷ y ∷ "base=540" ∷ []) ("refused=11" ∷ [])
+    ∷ row (x ∷ y ∷ "base=440" ∷ "rotation=0" ∷ []) ("refused=10" ∷ [])
+    ∷ row ("mx=000000000000000000000000000000000000" ∷ "my=000000000000000000000000000000000000" ∷ "base=539" ∷ []) ("refused=5" ∷ [])
+    ∷ []
+
+pub every-row-is-right : map (λ (r : Row). output (ended (r .input))) rows ≡ map (λ (r : Row). ended (r .printed)) rows
+unfolding rank same clash sum allBelow listFrom digitsUpTo decimal allDigits numberFrom isNumber bit letterAt clashes commute conj pivotBits blank hasPivot rotate letters text nativeOf one mul pow isBinary action packed placed measuredOf nativeString rotationBy spaced lines begins isLine matrixLine nativeLine rotationLine rotationLines planFrom nativeLines readLines readPlan baseText rotationText rotationsText rotationShifts listing planText output
+every-row-is-right = refl
+
+pub example : output (ended exampleInput) ≡ ended exampleOutput
+example = ap (λ (l : List (List ℕ)). getD l 0 []) every-row-is-right
+
+-- ---- what is read
+
+module _ (s : List ℕ) (p : Plan) (e : readPlan s ≡ good p) where
+  -- the base is a native, the rotations are natives with pivot support, and applied in order to the base they give what is measured
+  pub plan-is-true : Gives qubits (stringsOf (p .pair)) (p .base .0) (numbers (p .rotations)) (measured p)
+  plan-is-true = read-gives s p e
+
+  -- the listing's own `base=` and `rotation=` lines, put behind the matrices, are read back to the same plan
+  pub stated-again : readPlan (matrices s ++ stated (output s)) ≡ good p
+  stated-again = read-back s p e
+
+  -- and print the same listing
+  pub listed-again : output (matrices s ++ stated (output s)) ≡ output s
+  listed-again = list-back s p e
+
+  -- no input that is accepted is longer
+  pub longest-input : length s ≤ 3417
+  longest-input = read-length s p e
+
+-- a plan measures 0 exactly when its base string is 0
+module _ (p : Plan) where
+  pub zero-where-base-is : stringsOf (p .pair) (p .base .0) ≡ 0 → measured p ≡ 0
+  zero-where-base-is = measures-zero p
+
+  pub zero-only-where-base-is : measured p ≡ 0 → stringsOf (p .pair) (p .base .0) ≡ 0
+  zero-only-where-base-is = zero-base p
+
+-- the automorphism instructions, each rotation run twice and the base once, are 2·(2·count+1)
+pub shifts-counted : (base : NativeNumber) (ns : List NativeNumber) → shifts base ns ≡ 2 * (2 * length ns + 1)
+shifts-counted = shifts-count
+
+-- ---- how much matters
+
+-- the first 3,418 bytes decide the output, and so do any more of them
+pub front-decides : (n : ℕ) (s : List ℕ) → 3418 ≤ n → output (take n s) ≡ output s
+front-decides n s h = output-bounded n s (omega arith)
+
+-- no output is longer
+pub longest-output : (s : List ℕ) → length (output s) ≤ 17496
+longest-output = output-length
+
+-- so `plan`, which lends the first 4,096 bytes of its input and 65,536 bytes for the text, prints the whole output of every input
+module _ (s out after : List ℕ) (r : ListAnswer) (long : length out ≡ 65536) (w : Written (output (take 4096 s)) out r after) where
+  whole : output (take 4096 s) ≡ output s
+  whole = front-decides 4096 s (omega arith)
+
+  written : Written (output s) out r after
+  written = subst (λ (t : List ℕ). Written t out r after) whole w
+
+  fits : length (output s) ≤ length out
+  fits = omega (arith, longest-output s)
+
+  pub program-answers : r ≡ Is (length (output s))
+  program-answers = written .answer ∙ simp (le-ltb (length out) (length (output s)) fits)
+
+  pub program-prints : take (length (output s)) after ≡ output s
+  program-prints =
+      let b : after ≡ output s ++ drop (length (output s)) out = written .buffer ∙ simp (le-ltb (length out) (length (output s)) fits) in
+      rw b (take-append-seam (output s) (drop (length (output s)) out))
