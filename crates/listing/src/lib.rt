@@ -165,7 +165,7 @@ fn shifts(count: u16) -> u16
     requires { ⌜ count ≤ 256 ⌝ }
     ensures { λ r. ⌜ (r ≡ 2 * (2 * count + 1)) × (r < 10000) ⌝ }
 {
-    2 * (2 * count + 1)
+    4 * count + 2
 }
 
 // What stands before the rotations.
