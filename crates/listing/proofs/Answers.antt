@@ -1,6 +1,6 @@
 -- What the reader answers can be printed, its text is the output, and a text that was put from place 0 on is written. Assumes nothing.
 use mathlib.Core.List.{List, [], _∷_, _++_}
-use mathlib.Core.Path.{_≡_, refl, sym, ap, subst, _∙_}
+use mathlib.Core.Path.{_≡_, refl, ap, subst, _∙_}
 use Prim.Native.Nat.{ℕ, zero, suc, _+_, _-_, _*_, _<_, _≤_}
 use native.Mathlib.Omega.{arith}
 use lib.ListN.{length, take, getD, replicate, length-append, length-replicate}
@@ -54,7 +54,7 @@ module _ (a : PlanAnswer) (p : Printable a) where
   count-length = length-take-le (a .count) (a .rotations) (omega (arith, p .rotations .long, p .rotations .room))
 
   -- the array s holds the natives' strings
-  pub listing-is : (s : List ℕ) → s ≡ strings (ofBytes side (a .pair .mx)) (ofBytes side (a .pair .my))
+  listing-is : (s : List ℕ) → s ≡ strings (ofBytes side (a .pair .mx)) (ofBytes side (a .pair .my))
       → headText (a .measures .0) (a .count) (2 * (2 * a .count + 1)) (a .base) ++ rotationsText (at s) (take (a .count) (a .rotations)) ≡ listingOf a
   unfolding listing
   listing-is s e =

@@ -50,25 +50,25 @@ around-length (Letters p0 p1) false m = omega arith
 number-length : (n : NativeNumber) → n .0 < natives → length (decimal (n .0)) ≤ 3
 number-length n h = decimal-length (n .0) 2 (omega arith)
 
-pub base-length : (n : NativeNumber) → n .0 < natives → length (baseText n) ≤ 44
+base-length : (n : NativeNumber) → n .0 < natives → length (baseText n) ≤ 44
 unfolding baseText
 base-length n h = simp length-append (omega (arith, number-length n h, native-length (ltb (n .0) natives) (nativeOf (n .0))))
 
 module _ (f : ℕ → ℕ) where
-  pub rotation-length : (n : NativeNumber) → n .0 < natives → length (rotationText f n) ≤ 68
+  rotation-length : (n : NativeNumber) → n .0 < natives → length (rotationText f n) ≤ 68
   unfolding rotationText rotationBy
   rotation-length n h =
       simp length-append
       (omega (arith, number-length n h, around-length (anticommutingLetters (letterAt qubits (f (n .0)) 0)) (ltb (n .0) natives) (nativeOf (n .0))))
 
-  pub rotations-length : (ns : List NativeNumber) → All (Supported qubits f) (numbers ns) → length (rotationsText f ns) ≤ 68 * length ns
+  rotations-length : (ns : List NativeNumber) → All (Supported qubits f) (numbers ns) → length (rotationsText f ns) ≤ 68 * length ns
   unfolding rotationsText
   rotations-length [] a = omega arith
   rotations-length (n ∷ ns) a = rw length-append (omega (arith, rotation-length n (a .0 .0), rotations-length ns (a .1)))
 
 -- ---- the whole
 
-pub plan-length : (p : Plan) → Sound p → length (planText p) ≤ 17496
+plan-length : (p : Plan) → Sound p → length (planText p) ≤ 17496
 unfolding planText listing
 plan-length p s =
     let f = stringsOf (p .pair) in
@@ -95,7 +95,7 @@ number-small PlanInput = omega arith
 number-small NotLetters = omega arith
 number-small QubitRange = omega arith
 
-pub refusal-length : (r : Refusal) → length (refusalText r) ≤ 11
+refusal-length : (r : Refusal) → length (refusalText r) ≤ 11
 refusal-length r = simp length-append (omega (arith, decimal-length (numberOf r) 1 (omega (arith, number-small r))))
 
 text-length : (x : Read Plan) → ((p : Plan) → x ≡ good p → Sound p) → length (textOf x) ≤ 17496

@@ -1,6 +1,5 @@
 -- A listing's own `base=` and `rotation=` lines, put behind the matrices, are read back to the same plan: the listing is a text of whole lines,
 -- of which these are kept. Assumes nothing.
-use mathlib.Core.Bool.{Bool, cond, _||_}
 use mathlib.Core.List.{List, [], _∷_, _++_, map, reverse, flatMap, flatten, append-assoc}
 use mathlib.Core.Path.{_≡_, refl, sym, ap, _∙_}
 use Prim.Native.Nat.{ℕ, _<_}

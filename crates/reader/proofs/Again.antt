@@ -116,7 +116,7 @@ module _ (name v : List ℕ) where
       let h : length name < length (name ++ v ++ newline ∷ []) = omega (arith, line-length) in
       rw (b, lt-ltb (length name) (length (name ++ v ++ newline ∷ [])) h, line-last)
 
-  pub value-is : valueIn name (name ++ v ++ newline ∷ []) ≡ v
+  value-is : valueIn name (name ++ v ++ newline ∷ []) ≡ v
   value-is =
       let k : length (name ++ v ++ newline ∷ []) - 1 - length name ≡ length v = omega (arith, line-length) in
       let d : drop (length name) (name ++ v ++ newline ∷ []) ≡ v ++ newline ∷ [] = rw append-assoc (drop-append-seam name (v ++ newline ∷ [])) in

@@ -57,7 +57,7 @@ module _ (f : ℕ → ℕ) where
   abbrev Rotations : ℕ → List NativeNumber → Type 0
   Rotations k ns = All (Supported qubits f) (numbers ns) × (length ns ≤ k)
 
-  pub rotations-good : (k : ℕ) (ls : List (List ℕ)) (ns : List NativeNumber) → rotationLines f k ls ≡ good ns → Rotations k ns
+  rotations-good : (k : ℕ) (ls : List (List ℕ)) (ns : List NativeNumber) → rotationLines f k ls ≡ good ns → Rotations k ns
   unfolding rotationLines
   rotations-good k [] ns e = subst (Rotations k) (good-same [] ns e) (tt, omega arith)
   rotations-good zero (l ∷ ls) ns e = let n : _≡_ {A = ℕ} 0 1 = cc in absurd (omega arith)

@@ -20,13 +20,13 @@ module _ (P : ℕ → Type 0) (one : (n : ℕ) → n < 10 → P n) (more : (n : 
   below zero n h = one n (omega arith)
   below (suc k) n h = ⊎-elim (one n) (λ g. more n g (below k (n / 10) (omega arith))) (lt-or-ge n 10)
 
-  pub by-digits : (n : ℕ) → P n
+  by-digits : (n : ℕ) → P n
   by-digits n = below n n (omega arith)
 
 -- ---- how many digits
 
 -- at least one
-pub decimal-some : (n : ℕ) → 0 < length (decimal n)
+decimal-some : (n : ℕ) → 0 < length (decimal n)
 decimal-some =
     by-digits (λ (n : ℕ). 0 < length (decimal n))
     (λ n h. rw (decimal-one n h) (omega arith))
