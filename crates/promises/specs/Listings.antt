@@ -82,12 +82,12 @@ rows =
     ∷ row ("mx=000000000000000000000000000000000000" ∷ "my=000000000000000000000000000000000000" ∷ "base=539" ∷ []) ("refused=5" ∷ [])
     ∷ []
 
-pub every-row-is-right : map (λ (r : Row). output (ended (r .input))) rows ≡ map (λ (r : Row). ended (r .printed)) rows
+pub every-output-is-right : map (λ (r : Row). output (ended (r .input))) rows ≡ map (λ (r : Row). ended (r .printed)) rows
 unfolding rank same clash sum allBelow listFrom digitsUpTo decimal allDigits numberFrom isNumber bit letterAt clashes commute conj pivotBits blank hasPivot rotate letters text nativeOf one mul pow isBinary action packed placed measuredOf nativeString rotationBy spaced lines begins isLine matrixLine nativeLine rotationLine rotationLines planFrom nativeLines readLines readPlan baseText rotationText rotationsText rotationShifts listing planText output
-every-row-is-right = refl
+every-output-is-right = refl
 
 pub example : output (ended exampleInput) ≡ ended exampleOutput
-example = ap (λ (l : List (List ℕ)). getD l 0 []) every-row-is-right
+example = ap (λ (l : List (List ℕ)). getD l 0 []) every-output-is-right
 
 -- ---- what is read
 
