@@ -22,14 +22,14 @@ use Rattle.natives.specs.Arrays.{at, strings}
 use Rattle.natives.proofs.Arrays.{strings-at}
 use Rattle.table.specs.Plans.{All, Supported}
 use Rattle.reader.specs.declared.PlanAnswer.{PlanAnswer}
-use Rattle.reader.specs.Plans.{Plan, Read, good, bad, stringsOf, numbers, most, readPlan}
+use Rattle.reader.specs.Plans.{Plan, Read, good, bad, stringsOf, numbers, mostRotations, readPlan}
 use Rattle.reader.specs.Answers.{native0, planAnswer}
 use Rattle.reader.specs.Sound.{Sound}
 use Rattle.reader.proofs.Sound.{read-sound}
 use Rattle.reader.proofs.Measured.{measured-string}
 use Rattle.listing.specs.declared.ListAnswer.the-variants.{Is, Refused}
 use Rattle.listing.specs.Listings.{lineOf, headText, rotationText, rotationsText, listing, planText, textOf, output}
-use Rattle.listing.specs.Answers.{listingOf, shown, Printable, Written}
+use Rattle.listing.specs.Answers.{listingOf, answerText, Printable, Written}
 use Rattle.listing.proofs.ShiftCount.{shifts-count}
 
 -- ---- the listing of an answer
@@ -68,11 +68,11 @@ module _ (a : PlanAnswer) (p : Printable a) where
   plan-put {x} {y} {z} {k} {r} s e q l = subst (λ (t : List ℕ). Put x 0 t r z) (listing-is s e) (then q l)
 
 module _ (a : PlanAnswer) {x y : List ℕ} {r : ℕ} where
-  pub shown-done : a .outcome ≡ Done → Put x 0 (listingOf a) r y → Put x 0 (shown a) r y
-  shown-done e p = rw e p
+  pub answer-done : a .outcome ≡ Done → Put x 0 (listingOf a) r y → Put x 0 (answerText a) r y
+  answer-done e p = rw e p
 
-  pub shown-refused : (q : Refusal) (n : ℕ) → a .outcome ≡ NotDone q → n ≡ numberOf q → Put x 0 (lineOf "refused=" (decimal n)) r y → Put x 0 (shown a) r y
-  shown-refused q n e i p = rw (e, ← i) p
+  pub answer-refused : (q : Refusal) (n : ℕ) → a .outcome ≡ NotDone q → n ≡ numberOf q → Put x 0 (lineOf "refused=" (decimal n)) r y → Put x 0 (answerText a) r y
+  answer-refused q n e i p = rw (e, ← i) p
 
 -- ---- what the reader answers
 
@@ -89,9 +89,9 @@ plan-printable p s = record {
   base = s .gives .base-below;
   measures = measured-string p;
   rotations = record {
-    long = length-append (p .rotations) (replicate (most - length (p .rotations)) native0) ∙ ap (λ (k : ℕ). length (p .rotations) + k) (length-replicate (most - length (p .rotations)) native0) ∙ omega (arith, s .few);
+    long = length-append (p .rotations) (replicate (mostRotations - length (p .rotations)) native0) ∙ ap (λ (k : ℕ). length (p .rotations) + k) (length-replicate (mostRotations - length (p .rotations)) native0) ∙ omega (arith, s .few);
     room = s .few;
-    small = natives-small (stringsOf (p .pair)) (p .rotations) (replicate (most - length (p .rotations)) native0) (s .gives .supported);
+    small = natives-small (stringsOf (p .pair)) (p .rotations) (replicate (mostRotations - length (p .rotations)) native0) (s .gives .supported);
   };
 }
 
@@ -103,19 +103,19 @@ by-reading : (x : Read Plan) → ((p : Plan) → x ≡ good p → Sound p) → P
 by-reading (good p) h = plan-printable p (h p refl)
 by-reading (bad r) h = zeros-printable r
 
-shown-text : (x : Read Plan) → shown (planAnswer x) ≡ textOf x
+answer-text : (x : Read Plan) → answerText (planAnswer x) ≡ textOf x
 unfolding planText
-shown-text (good p) = rw (take-append-seam (p .rotations) (replicate (most - length (p .rotations)) native0))
-shown-text (bad r) = refl
+answer-text (good p) = rw (take-append-seam (p .rotations) (replicate (mostRotations - length (p .rotations)) native0))
+answer-text (bad r) = refl
 
 -- a is what the reader answers of s
 module _ (s : List ℕ) (a : PlanAnswer) (e : a ≡ planAnswer (readPlan s)) where
   pub read-printable : Printable a
   read-printable = rw e (by-reading (readPlan s) (read-sound s))
 
-  pub read-shown : shown a ≡ output s
+  pub read-text : answerText a ≡ output s
   unfolding output
-  read-shown = rw e (shown-text (readPlan s))
+  read-text = rw e (answer-text (readPlan s))
 
 -- ---- a text in the front of a buffer
 

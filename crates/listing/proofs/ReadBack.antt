@@ -22,7 +22,7 @@ use Rattle.native_measurement.specs.declared.NativeNumber.{NativeNumber}
 use Rattle.native_measurement.specs.Answers.{implementationAt}
 use Rattle.compile.specs.Expansions.{rotationBy, nativeExpansion, rotationExpansion, spaced, expansionText}
 use Rattle.reader.specs.Lines.{newline, lines, lineAt, begins, valueIn}
-use Rattle.reader.specs.Plans.{Plan, good, stringsOf, measured, most, matrixLine, planFrom, nativeLines, readLines, readPlan}
+use Rattle.reader.specs.Plans.{Plan, good, stringsOf, measured, mostRotations, matrixLine, planFrom, nativeLines, readLines, readPlan}
 use Rattle.reader.specs.Sound.{Sound}
 use Rattle.reader.proofs.Good.{matrix-shape}
 use Rattle.reader.proofs.Sound.{read-parts, read-sound}
@@ -172,7 +172,7 @@ module _ (p : Plan) (x y : List ℕ) (ex : matrixLine (bytesOf "mx=") x ≡ good
         ex,
         ey,
         native-again "base=" (p .base) (s .gives .base-below),
-        rotations-again (stringsOf (p .pair)) most (p .rotations) (s .gives .supported) (s .few),
+        rotations-again (stringsOf (p .pair)) mostRotations (p .rotations) (s .gives .supported) (s .few),
         ne-eqb (measured p) 0 (s .some),
       )
 

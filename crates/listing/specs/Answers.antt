@@ -14,7 +14,7 @@ use Rattle.native_measurement.specs.declared.NativeNumber.{NativeNumber}
 use Rattle.native_measurement.specs.Natives.{natives}
 use Rattle.measurement.specs.Matrices.{side, isBytes}
 use Rattle.reader.specs.declared.PlanAnswer.{PlanAnswer}
-use Rattle.reader.specs.Plans.{stringsOf, most}
+use Rattle.reader.specs.Plans.{stringsOf, mostRotations}
 use Rattle.reader.specs.Answers.{native0}
 use Rattle.listing.specs.Listings.{listing, refusalText}
 use Rattle.listing.specs.declared.ListAnswer.{ListAnswer}
@@ -26,17 +26,17 @@ use Rattle.listing.specs.declared.ListAnswer.the-variants.{Is, Refused}
 abbrev pub listingOf : PlanAnswer → List ℕ
 listingOf a = listing (stringsOf (a .pair)) (a .measures .0) (a .base) (take (a .count) (a .rotations))
 
-abbrev pub shownBy : Outcome → List ℕ → List ℕ
-shownBy Done t = t
-shownBy (NotDone r) t = refusalText r
+abbrev pub outcomeText : Outcome → List ℕ → List ℕ
+outcomeText Done t = t
+outcomeText (NotDone r) t = refusalText r
 
-abbrev pub shown : PlanAnswer → List ℕ
-shown a = shownBy (a .outcome) (listingOf a)
+abbrev pub answerText : PlanAnswer → List ℕ
+answerText a = outcomeText (a .outcome) (listingOf a)
 
 -- count natives in front of an array
 pub record Small (ns : List NativeNumber) (count : ℕ) : Type 0 where
-  pub long : length ns ≡ most
-  pub room : count ≤ most
+  pub long : length ns ≡ mostRotations
+  pub room : count ≤ mostRotations
   pub small : (i : ℕ) → i < count → getD ns i native0 .0 < natives
 
 -- an answer that can be printed, as every one of the reader's can

@@ -26,7 +26,7 @@ ghost use Rattle.natives.specs.Arrays.{at};
 ghost use Rattle.compile.specs.Expansions.{nativeExpansion, rotationExpansion, space, expansionText};
 ghost use Rattle.reader.specs.Lines.{newline};
 ghost use Rattle.listing.specs.Listings.{lineOf, baseText, rotationText, rotationsText, headText, output};
-ghost use Rattle.listing.specs.Answers.{Small, Printable, listingOf, shown, Written};
+ghost use Rattle.listing.specs.Answers.{Small, Printable, listingOf, answerText, Written};
 
 // The length of the text that was written, or the refusal.
 pub enum ListAnswer {
@@ -197,7 +197,7 @@ fn put_plan(out: &mut [u8], plan: PlanAnswer) -> usize
 // The listing, or the number of the refusal.
 fn put_answer(out: &mut [u8], plan: PlanAnswer) -> usize
     requires { ⌜ Printable plan ⌝ }
-    ensures { λ r. ⌜ Put (now (out .entry)) 0 (shown plan) r (now (out .exit)) ⌝ }
+    ensures { λ r. ⌜ Put (now (out .entry)) 0 (answerText plan) r (now (out .exit)) ⌝ }
 {
     let outcome = plan.outcome;
     match outcome {
@@ -209,7 +209,7 @@ fn put_answer(out: &mut [u8], plan: PlanAnswer) -> usize
 // The same, or 9 and nothing written where there is no room for all of it.
 fn write(out: &mut [u8], plan: PlanAnswer) -> ListAnswer
     requires { ⌜ Printable plan ⌝ }
-    ensures { λ r. ⌜ Written (shown plan) (now (out .entry)) r (now (out .exit)) ⌝ }
+    ensures { λ r. ⌜ Written (answerText plan) (now (out .entry)) r (now (out .exit)) ⌝ }
 {
     let needed = put_answer(&mut out[..0], plan);
     if out.len() < needed {

@@ -17,7 +17,7 @@ use Rattle.text.specs.Decimals.{isNumber}
 use Rattle.native_measurement.specs.declared.NativeNumber.{NativeNumber}
 use Rattle.measurement.specs.declared.CodeMeasurement.{CodeMeasurement}
 use Rattle.reader.specs.Lines.{newline, lines, lineAt, lineLength, isLine, valueIn}
-use Rattle.reader.specs.Plans.{Plan, Read, good, bad, on, stringsOf, most, matrixLine, nativeLine, supported, rotationLine, rotationLines, planFrom, nativeLines, readLines, readPlan}
+use Rattle.reader.specs.Plans.{Plan, Read, good, bad, on, stringsOf, mostRotations, matrixLine, nativeLine, supported, rotationLine, rotationLines, planFrom, nativeLines, readLines, readPlan}
 use Rattle.reader.proofs.Lines.{lines-cons, lines-first, lines-rest, line-in}
 use Rattle.reader.proofs.Good.{both-good}
 
@@ -230,7 +230,7 @@ module _ (c : CodeMeasurement) where
 
   behind-base-bounded : (base : NativeNumber) → Bounded 3328 (behind-base base)
   unfolding behind-base planFrom rotations
-  behind-base-bounded base = bounded-on 3328 (rotations (stringsOf c) most) _ (rotations-bounded (stringsOf c) most)
+  behind-base-bounded base = bounded-on 3328 (rotations (stringsOf c) mostRotations) _ (rotations-bounded (stringsOf c) mostRotations)
 
   pair-turn : (s : List ℕ) → behind-pair s ≡ turn (nativeLine (bytesOf "base=")) behind-base s
   unfolding behind-pair nativeLines behind-base turn first rest

@@ -14,7 +14,7 @@ use Rattle.native_measurement.specs.declared.NativeNumber.{NativeNumber}
 use Rattle.native_measurement.specs.Natives.{natives}
 use Rattle.measurement.specs.Matrices.{side, isBytes}
 use Rattle.reader.specs.Lines.{isLine, valueIn}
-use Rattle.reader.specs.Plans.{Read, good, bad, on, digitNumbers, matrixLine, nativeOf, nativeLine}
+use Rattle.reader.specs.Plans.{Read, good, bad, on, digitNumbers, matrixLine, inRange, nativeLine}
 
 -- ---- in general
 
@@ -40,9 +40,9 @@ both-good (bad r) next b z = let n : _≡_ {A = ℕ} 0 1 = cc in absurd (omega a
 module _ (name l : List ℕ) where
   -- a line with a native: a name and a number below 540
   native-passed : (n : NativeNumber) → nativeLine name l ≡ good n
-      → (isLine name l && isNumber (valueIn name l) ≡ true) × (nativeOf (numberIn (valueIn name l)) ≡ good n)
+      → (isLine name l && isNumber (valueIn name l) ≡ true) × (inRange (numberIn (valueIn name l)) ≡ good n)
   unfolding nativeLine
-  native-passed n z = passed (isLine name l && isNumber (valueIn name l)) (nativeOf (numberIn (valueIn name l))) PlanInput n z
+  native-passed n z = passed (isLine name l && isNumber (valueIn name l)) (inRange (numberIn (valueIn name l))) PlanInput n z
 
   pub native-small : (n : NativeNumber) → nativeLine name l ≡ good n → n .0 < natives
   native-small n z =

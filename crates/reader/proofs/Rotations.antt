@@ -27,7 +27,7 @@ use Rattle.reader.specs.declared.LineAnswer.{LineAnswer}
 use Rattle.reader.specs.declared.LineAnswer.the-variants.{Is, Refused}
 use Rattle.reader.specs.declared.PlanAnswer.{PlanAnswer}
 use Rattle.reader.specs.Lines.{lines, lineLength}
-use Rattle.reader.specs.Plans.{Plan, stringsOf, numbers, measuredBy, Read, good, bad, on, nativeLine, supported, rotationLine, most, rotationLines, planFrom}
+use Rattle.reader.specs.Plans.{Plan, stringsOf, numbers, measuredBy, Read, good, bad, on, nativeLine, supported, rotationLine, mostRotations, rotationLines, planFrom}
 use Rattle.reader.specs.Answers.{lineAnswer, native0, planAnswer}
 use Rattle.reader.proofs.Lines.{lines-none, lines-at}
 use Rattle.reader.proofs.Good.{native-small}
@@ -69,19 +69,19 @@ measured-more f p ns n = rw (map-append (λ (m : NativeNumber). m .0) ns (n ∷ 
 
 -- Of all lines some are left. Those before them are read: the array holds `count` rotations and zeros behind them, and m is measured so far.
 pub record Reading (f : ℕ → ℕ) (base : NativeNumber) (all left : List (List ℕ)) (rotations : List NativeNumber) (count m : ℕ) : Type 0 where
-  pub room : count ≤ most
-  pub long : length rotations ≡ most
-  pub reads : rotationLines f most all ≡ on (rotationLines f (most - count) left) (behind (take count rotations))
+  pub room : count ≤ mostRotations
+  pub long : length rotations ≡ mostRotations
+  pub reads : rotationLines f mostRotations all ≡ on (rotationLines f (mostRotations - count) left) (behind (take count rotations))
   pub measures : m ≡ measuredBy f base (take count rotations)
   pub string : m < 4 ^ qubits
-  pub zeros : drop count rotations ≡ replicate (most - count) native0
+  pub zeros : drop count rotations ≡ replicate (mostRotations - count) native0
 
 reading-none : (f : ℕ → ℕ) (base : NativeNumber) (all : List (List ℕ)) → f (base .0) < 4 ^ qubits
-    → Reading f base all all (replicate most native0) 0 (f (base .0))
+    → Reading f base all all (replicate mostRotations native0) 0 (f (base .0))
 reading-none f base all h = record {
   room = omega arith;
   long = refl;
-  reads = behind-none (rotationLines f most all);
+  reads = behind-none (rotationLines f mostRotations all);
   measures = refl;
   string = h;
   zeros = refl;
@@ -90,15 +90,15 @@ reading-none f base all h = record {
 -- before a line
 module _ {f : ℕ → ℕ} {base : NativeNumber} {all : List (List ℕ)} {l : List ℕ} {ls : List (List ℕ)} {rotations : List NativeNumber} {count m : ℕ}
     (r : Reading f base all (l ∷ ls) rotations count m) where
-  reading-full : count ≡ most → rotationLines f most all ≡ bad PlanInput
+  reading-full : count ≡ mostRotations → rotationLines f mostRotations all ≡ bad PlanInput
   unfolding rotationLines
   reading-full e = r .reads ∙ rw e
 
-  module _ (h : count < most) where
-    one-less : most - count ≡ suc (most - (count + 1))
+  module _ (h : count < mostRotations) where
+    one-less : mostRotations - count ≡ suc (mostRotations - (count + 1))
     one-less = omega arith
 
-    reading-bad : (x : Refusal) → rotationLine f l ≡ bad x → rotationLines f most all ≡ bad x
+    reading-bad : (x : Refusal) → rotationLine f l ≡ bad x → rotationLines f mostRotations all ≡ bad x
     unfolding rotationLines
     reading-bad x e = r .reads ∙ rw (one-less, e)
 
@@ -106,7 +106,7 @@ module _ {f : ℕ → ℕ} {base : NativeNumber} {all : List (List ℕ)} {l : Li
       grown : take (count + 1) (set rotations count n) ≡ take count rotations ++ (n ∷ [])
       grown = rw add-one (take-suc-set rotations count n (omega (arith, r .long)))
 
-      shrunk : drop (count + 1) (set rotations count n) ≡ replicate (most - (count + 1)) native0
+      shrunk : drop (count + 1) (set rotations count n) ≡ replicate (mostRotations - (count + 1)) native0
       shrunk = drop-set-lt (count + 1) rotations count n (omega arith) ∙ sym (drop-drop 1 count rotations) ∙ rw (r .zeros, one-less)
 
       reading-more : rotationLine f l ≡ good n → f (n .0) < 4 ^ qubits
@@ -115,7 +115,7 @@ module _ {f : ℕ → ℕ} {base : NativeNumber} {all : List (List ℕ)} {l : Li
       reading-more e s = record {
         room = omega arith;
         long = length-set rotations count n ∙ r .long;
-        reads = r .reads ∙ rw (one-less, e, grown) (behind-more (take count rotations) n (rotationLines f (most - (count + 1)) ls));
+        reads = r .reads ∙ rw (one-less, e, grown) (behind-more (take count rotations) n (rotationLines f (mostRotations - (count + 1)) ls));
         measures = rw (grown, r .measures) (sym (measured-more f (f (base .0)) (take count rotations) n));
         string = rotate-string qubits m (f (n .0)) (r .string) s;
         zeros = shrunk;
@@ -123,7 +123,7 @@ module _ {f : ℕ → ℕ} {base : NativeNumber} {all : List (List ℕ)} {l : Li
 
 -- ---- the plan
 
-plan-bad : (c : CodeMeasurement) (base : NativeNumber) (all : List (List ℕ)) (x : Refusal) → rotationLines (stringsOf c) most all ≡ bad x
+plan-bad : (c : CodeMeasurement) (base : NativeNumber) (all : List (List ℕ)) (x : Refusal) → rotationLines (stringsOf c) mostRotations all ≡ bad x
     → planFrom c base all ≡ bad x
 unfolding planFrom
 plan-bad c base all x e = rw e
@@ -151,7 +151,7 @@ module _ (c : CodeMeasurement) {base : NativeNumber} {all : List (List ℕ)} {ro
   pub plan-good : (m ≡ 0 → ⊥) → answer count rotations ≡ planAnswer (planFrom c base all)
   plan-good some =
       let n : length (take count rotations) ≡ count = length-take-le count rotations (omega (arith, r .long)) in
-      let whole : take count rotations ++ replicate (most - count) native0 ≡ rotations = rw (← r .zeros) (take-append-drop count rotations) in
+      let whole : take count rotations ++ replicate (mostRotations - count) native0 ≡ rotations = rw (← r .zeros) (take-append-drop count rotations) in
       sym (ap planAnswer (plan-some some) ∙ rw (n, ← r .measures) (ap (answer count) whole))
 
 -- ---- in a text, with the strings held in a list
@@ -161,7 +161,7 @@ module _ (c : CodeMeasurement) (held : List ℕ) (q : held ≡ strings (ofBytes 
   held-at = strings-at (ofBytes side (c .mx)) (ofBytes side (c .my)) held q
 
   pub text-start : (base : NativeNumber) (all : List (List ℕ)) → base .0 < natives
-      → Reading (stringsOf c) base all all (replicate most native0) 0 (at held (base .0))
+      → Reading (stringsOf c) base all all (replicate mostRotations native0) 0 (at held (base .0))
   text-start base all h = rw (held-at (base .0) h) (reading-none (stringsOf c) base all (native-string c (base .0)))
 
   -- the lines from place i of s on are left
@@ -181,7 +181,7 @@ module _ (c : CodeMeasurement) (held : List ℕ) (q : held ≡ strings (ofBytes 
       before-line : (end : ℕ) → end ≡ i + lineLength (drop i s) → Left (line end ∷ lines (drop end s))
       before-line end e = subst Left (lines-at s i h end e) r
 
-      pub line-full : count ≡ most → planFrom c base all ≡ bad PlanInput
+      pub line-full : count ≡ mostRotations → planFrom c base all ≡ bad PlanInput
       line-full e = plan-bad c base all PlanInput (reading-full (before-line (i + lineLength (drop i s)) refl) e)
 
       -- what is answered for that line
@@ -192,8 +192,8 @@ module _ (c : CodeMeasurement) (held : List ℕ) (q : held ≡ strings (ofBytes 
         pub line-small : (n : NativeNumber) → a ≡ Is n → n .0 < natives
         line-small n y = rotation-good (at held) (line end) n (line-good (rotationLine (at held) (line end)) z n y) .0
 
-        module _ (k : count ≡ most → ⊥) where
-          less : count < most
+        module _ (k : count ≡ mostRotations → ⊥) where
+          less : count < mostRotations
           less = omega (arith, r .room)
 
           pub line-refused : (x : Refusal) → a ≡ Refused x → planFrom c base all ≡ bad x

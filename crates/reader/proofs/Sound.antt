@@ -13,7 +13,7 @@ use Rattle.native_measurement.specs.declared.NativeNumber.{NativeNumber}
 use Rattle.measurement.specs.declared.CodeMeasurement.{CodeMeasurement}
 use Rattle.table.specs.Plans.{All, Supported, Gives}
 use Rattle.reader.specs.Lines.{lines, lineAt}
-use Rattle.reader.specs.Plans.{Plan, good, stringsOf, numbers, measured, most, matrixLine, nativeLine, supported, rotationLine, rotationLines, planFrom, nativeLines, readLines, readPlan}
+use Rattle.reader.specs.Plans.{Plan, good, stringsOf, numbers, measured, mostRotations, matrixLine, nativeLine, supported, rotationLine, rotationLines, planFrom, nativeLines, readLines, readPlan}
 use Rattle.reader.specs.Sound.{Sound}
 use Rattle.reader.proofs.Good.{good-same, passed, passed-not, both-good, native-small, matrix-good}
 
@@ -24,7 +24,7 @@ pub record Parts (ls : List (List ℕ)) (p : Plan) : Type 0 where
   pub mx : matrixLine (bytesOf "mx=") (lineAt 0 ls) ≡ good (p .pair .mx)
   pub my : matrixLine (bytesOf "my=") (lineAt 1 ls) ≡ good (p .pair .my)
   pub base : nativeLine (bytesOf "base=") (lineAt 0 (drop 2 ls)) ≡ good (p .base)
-  pub rotations : rotationLines (stringsOf (p .pair)) most (drop 1 (drop 2 ls)) ≡ good (p .rotations)
+  pub rotations : rotationLines (stringsOf (p .pair)) mostRotations (drop 1 (drop 2 ls)) ≡ good (p .rotations)
   pub some : measured p ≡ 0 → ⊥
 
 pub read-parts : (s : List ℕ) (p : Plan) → readPlan s ≡ good p → Parts (lines s) p
@@ -35,7 +35,7 @@ read-parts s p e =
     let y = both-good (matrixLine (bytesOf "my=") (lineAt 1 ls)) _ p (x .2) in
     let c : CodeMeasurement = record { mx = x .0; my = y .0 } in
     let b = both-good (nativeLine (bytesOf "base=") (lineAt 0 (drop 2 ls))) _ p (y .2) in
-    let r = both-good (rotationLines (stringsOf c) most (drop 1 (drop 2 ls))) _ p (b .2) in
+    let r = both-good (rotationLines (stringsOf c) mostRotations (drop 1 (drop 2 ls))) _ p (b .2) in
     let q : Plan = record { pair = c; base = b .0; rotations = r .0 } in
     let z = passed-not (eqb (measured q) 0) (good q) Identity p (r .2) in
     subst (Parts ls) (good-same q p (z .1))
@@ -72,7 +72,7 @@ module _ (f : ℕ → ℕ) where
 pub read-sound : (s : List ℕ) (p : Plan) → readPlan s ≡ good p → Sound p
 read-sound s p e =
     let h = read-parts s p e in
-    let r = rotations-good (stringsOf (p .pair)) most (drop 1 (drop 2 (lines s))) (p .rotations) (h .rotations) in
+    let r = rotations-good (stringsOf (p .pair)) mostRotations (drop 1 (drop 2 (lines s))) (p .rotations) (h .rotations) in
     record {
       mx = matrix-good (bytesOf "mx=") (lineAt 0 (lines s)) (p .pair .mx) (h .mx);
       my = matrix-good (bytesOf "my=") (lineAt 1 (lines s)) (p .pair .my) (h .my);

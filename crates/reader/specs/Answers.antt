@@ -10,7 +10,7 @@ use Rattle.reader.specs.declared.LineAnswer.{LineAnswer}
 use Rattle.reader.specs.declared.LineAnswer.the-variants.{Is, Refused}
 use Rattle.reader.specs.declared.MatrixAnswer.{MatrixAnswer}
 use Rattle.reader.specs.declared.PlanAnswer.{PlanAnswer}
-use Rattle.reader.specs.Plans.{Plan, Read, good, bad, numbers, measured, most}
+use Rattle.reader.specs.Plans.{Plan, Read, good, bad, numbers, measured, mostRotations}
 
 -- of a line with a native
 abbrev pub lineAnswer : Read NativeNumber → LineAnswer
@@ -34,7 +34,7 @@ planAnswer (good p) = record {
   base = p .base;
   measures = record { 0 = measured p };
   count = length (p .rotations);
-  rotations = p .rotations ++ replicate (most - length (p .rotations)) native0;
+  rotations = p .rotations ++ replicate (mostRotations - length (p .rotations)) native0;
 }
 planAnswer (bad r) = record {
   outcome = NotDone r;
@@ -42,7 +42,7 @@ planAnswer (bad r) = record {
   base = native0;
   measures = record { 0 = 0 };
   count = 0;
-  rotations = replicate most native0;
+  rotations = replicate mostRotations native0;
 }
 
 abbrev pub toldPlan : PlanAnswer → Told

@@ -67,12 +67,12 @@ matrixLine name l =
     (bad PlanInput)
 
 -- a native: a number over 539 gives 11
-abbrev pub nativeOf : ℕ → Read NativeNumber
-nativeOf n = cond (ltb n natives) (good (record { 0 = n })) (bad NativeRange)
+abbrev pub inRange : ℕ → Read NativeNumber
+inRange n = cond (ltb n natives) (good (record { 0 = n })) (bad NativeRange)
 
 -- `base=` or `rotation=`, and a native
 unfoldable pub nativeLine : List ℕ → List ℕ → Read NativeNumber
-nativeLine name l = cond (isLine name l && isNumber (valueIn name l)) (nativeOf (numberIn (valueIn name l))) (bad PlanInput)
+nativeLine name l = cond (isLine name l && isNumber (valueIn name l)) (inRange (numberIn (valueIn name l))) (bad PlanInput)
 
 -- a rotation: 10 where its string has no letter on the pivot
 abbrev pub supported : (ℕ → ℕ) → NativeNumber → Read NativeNumber
@@ -84,8 +84,8 @@ rotationLine f l = on (nativeLine (bytesOf "rotation=") l) (supported f)
 -- ---- all lines
 
 -- a plan has at most 256 rotations
-abbrev pub most : ℕ
-most = 256
+abbrev pub mostRotations : ℕ
+mostRotations = 256
 
 -- at most k rotation lines; one more gives 12, whatever it says
 unfoldable pub rotationLines : (ℕ → ℕ) → ℕ → List (List ℕ) → Read (List NativeNumber)
@@ -101,7 +101,7 @@ nonzero p = cond (eqb (measured p) 0) (bad Identity) (good p)
 -- the rotation lines, behind the pair and the base
 unfoldable pub planFrom : CodeMeasurement → NativeNumber → List (List ℕ) → Read Plan
 planFrom c base ls =
-    on (rotationLines (stringsOf c) most ls)
+    on (rotationLines (stringsOf c) mostRotations ls)
     (λ (ns : List NativeNumber). nonzero (record { pair = c; base = base; rotations = ns }))
 
 -- the base and the rotations, behind the pair

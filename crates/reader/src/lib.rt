@@ -23,13 +23,13 @@ ghost use Rattle.reader.specs.Plans.{bad, digitNumbers, matrixLine, nati
 ghost use Rattle.reader.specs.Answers.{lineAnswer, matrixAnswer, planAnswer};
 
 // The native of a line, or the refusal.
-pub enum LineAnswer {
+enum LineAnswer {
     Is(NativeNumber),
     Refused(Refusal),
 }
 
 // The numbers of a matrix line; all zeros on a refusal.
-pub struct MatrixAnswer {
+struct MatrixAnswer {
     pub outcome: Outcome,
     pub numbers: [u8; 36],
 }

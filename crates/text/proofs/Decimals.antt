@@ -83,7 +83,7 @@ module _ (s : List ℕ) (i : ℕ) where
   number-none v h = rw (drop-of-length-le s h)
 
 -- v is what the digits before place i of s stand for, the others are to come
-pub record Reading (s : List ℕ) (i v : ℕ) : Type 0 where
+pub record SoFar (s : List ℕ) (i v : ℕ) : Type 0 where
   pub inside : i ≤ length s
   pub digits : allDigits (drop i s) ≡ true
   pub number : numberFrom v (drop i s) ≡ numberFrom 0 s
@@ -92,8 +92,8 @@ pub record Reading (s : List ℕ) (i v : ℕ) : Type 0 where
 small-next : (i v d : ℕ) → v < 10 ^ i → d ≤ 9 → 10 * v + d < 10 ^ (i + 1)
 small-next i v d h k = rw (add-one, pow·suc 10 i) (omega arith)
 
-pub reading-next : (s : List ℕ) (i v : ℕ) → Reading s i v → i < length s → Reading s (i + 1) (10 * v + (getD s i 0 - 48))
-reading-next s i v r h =
+pub so-far-next : (s : List ℕ) (i v : ℕ) → SoFar s i v → i < length s → SoFar s (i + 1) (10 * v + (getD s i 0 - 48))
+so-far-next s i v r h =
     let n = all-next s i h (r .digits) in
     record {
       inside = omega arith;

@@ -1,5 +1,5 @@
 -- `listing::put_answer` meets its contract: the outcome decides which text is put. Assumes nothing.
-use Rattle.listing.proofs.Answers.{shown-done, shown-refused}
+use Rattle.listing.proofs.Answers.{answer-done, answer-refused}
 use borrow.Author.Needs.{needs}
 use Rattle.listing.proofs.put_answer.Statement.{statement}
 use Rattle.listing.proofs.put_answer.Tie as tie
@@ -29,13 +29,13 @@ same-length : tie.Need-same-length
 same-length c = search needs
 
 returns : tie.Need-returns
-returns c = shown-refused (c .before .before .before .before .before .before .before .before .before .before .args .plan) _ _ (c .before .before .before .before .before .before .before .outcome .given .1) (c .before .before .before .number .ensures) (c .before .before .put-number-line .ensures .0)
+returns c = answer-refused (c .before .before .before .before .before .before .before .before .before .before .args .plan) _ _ (c .before .before .before .before .before .before .before .outcome .given .1) (c .before .before .before .number .ensures) (c .before .before .put-number-line .ensures .0)
 
 same-length-2 : tie.Need-same-length-2
 same-length-2 c = search needs
 
 returns-2 : tie.Need-returns-2
-returns-2 c = shown-done (c .before .before .before .before .before .before .before .args .plan) (c .before .before .before .before .enum-told .given .1) (c .before .before .put-plan .ensures)
+returns-2 c = answer-done (c .before .before .before .before .before .before .before .args .plan) (c .before .before .before .before .enum-told .given .1) (c .before .before .put-plan .ensures)
 
 pub put-answer-spec : {M : Type 1} → statement M
 put-answer-spec =

@@ -4,12 +4,12 @@ use Prim.Native.Nat.{_-_, _<_}
 use native.Mathlib.Omega.{arith}
 use lib.ListN.{length}
 use borrow.Author.Needs.{needs}
-use Rattle.text.proofs.Decimals.{Reading, all-next, reading-next, number-none, small-before}
+use Rattle.text.proofs.Decimals.{SoFar, all-next, so-far-next, number-none, small-before}
 use Rattle.text.proofs.number_in.Statement.{statement}
 use Rattle.text.proofs.number_in.Tie as tie
 
 abbrev Inv-loop : tie.InvT-loop
-Inv-loop s v₀ i₀ v i = Reading s i v
+Inv-loop s v₀ i₀ v i = SoFar s i v
 
 abbrev μ-loop : tie.MeasureT-loop
 μ-loop s v₀ i₀ v i = length s - i
@@ -43,7 +43,7 @@ loop-less : tie.Need-loop-less Inv-loop μ-loop
 loop-less c = search needs
 
 loop-again : tie.Need-loop-again Inv-loop μ-loop
-loop-again c = reading-next _ _ _ (c .before .before .loop .inv) (c .before .loop-test .taken)
+loop-again c = so-far-next _ _ _ (c .before .before .loop .inv) (c .before .loop-test .taken)
 
 returns : tie.Need-returns Inv-loop μ-loop
 returns c = sym (number-none _ _ _ (c .loop-test .left)) ∙ c .before .loop .inv .number
