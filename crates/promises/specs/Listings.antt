@@ -1,13 +1,15 @@
--- What is promised of plans and their listings: document 01's own example and an input for each refusal, computed; what is read is a true
--- plan; what a plan measures; a listing states its plan again; and how much of an input matters. Assumes nothing.
+-- What is promised of plans and their listings: document 01's own example and an input for each refusal, computed; which line decides; what is
+-- read is a true plan; what a plan measures; a listing states its plan again; and how much of an input matters. Assumes nothing.
 use mathlib.Core.List.{List, [], _∷_, _++_, map}
 use mathlib.Core.Path.{_≡_, refl, ap, subst, _∙_}
-use Prim.Native.Nat.{ℕ, _+_, _*_, _≤_}
+use Prim.Native.Nat.{ℕ, _+_, _*_, _<_, _≤_}
 use Prim.Native.String.{String}
 use native.Mathlib.Omega.{arith}
 use lib.ListN.{length, getD, take, drop}
 use lib.Seq.{take-append-seam}
 use borrow.Author.Tests.{le-ltb}
+use Rattle.bicycle_common.specs.declared.Refusal.{Refusal}
+use Rattle.bicycle_common.specs.declared.Refusal.the-variants.{Identity, PlanInput}
 use Rattle.bicycle_common.specs.Bytes.{bytesOf}
 use Rattle.bicycle_common.specs.Letters.{rank, same, clash}
 use Rattle.bicycle_common.specs.Ranges.{sum, allBelow, listFrom}
@@ -16,12 +18,14 @@ use Rattle.pauli_string.specs.Strings.{qubits, bit, letterAt, clashes, commute,
 use Rattle.pauli_string.specs.Text.{letters, text}
 use Rattle.native_measurement.specs.declared.NativeNumber.{NativeNumber}
 use Rattle.native_measurement.specs.Natives.{nativeOf}
+use Rattle.measurement.specs.declared.CodeMeasurement.{CodeMeasurement}
 use Rattle.measurement.specs.Matrices.{one, mul, pow, isBinary}
 use Rattle.measurement.specs.Measures.{action, packed, placed, measured as measuredOf, nativeString}
 use Rattle.table.specs.Plans.{Gives}
 use Rattle.compile.specs.Expansions.{rotationBy, spaced}
-use Rattle.reader.specs.Lines.{newline, lines, begins, isLine}
-use Rattle.reader.specs.Plans.{Plan, good, stringsOf, numbers, measured, matrixLine, nativeLine, rotationLine, rotationLines, planFrom, nativeLines, readLines, readPlan}
+use Rattle.reader.specs.Lines.{newline, lines, lineAt, begins, isLine}
+use Rattle.reader.specs.Plans.{Plan, good, bad, stringsOf, numbers, measuredBy, measured, mostRotations, matrixLine, nativeLine, rotationLine, rotationLines, planFrom, nativeLines, readLines, readPlan}
+use Rattle.reader.proofs.First.{bad-behind, full-behind}
 use Rattle.reader.proofs.Sound.{read-gives}
 use Rattle.reader.proofs.Measured.{measures-zero, zero-base}
 use Rattle.reader.proofs.Bound.{read-length}
@@ -88,6 +92,58 @@ every-output-is-right = refl
 
 pub example : output (ended exampleInput) ≡ ended exampleOutput
 example = ap (λ (l : List (List ℕ)). getD l 0 []) every-output-is-right
+
+-- ---- which line decides
+
+module _ (s : List ℕ) where
+  -- the lines, from the third on and from the fourth on
+  abbrev bases : List (List ℕ)
+  bases = drop 2 (lines s)
+
+  abbrev turns : List (List ℕ)
+  turns = drop 1 bases
+
+  -- the first line, whatever follows it
+  pub first-decides : (r : Refusal) → matrixLine (bytesOf "mx=") (lineAt 0 (lines s)) ≡ bad r → readPlan s ≡ bad r
+  unfolding readPlan readLines
+  first-decides r e = rw e
+
+  module _ (mx : List ℕ) (x : matrixLine (bytesOf "mx=") (lineAt 0 (lines s)) ≡ good mx) where
+    -- the second, where the first is good
+    pub second-decides : (r : Refusal) → matrixLine (bytesOf "my=") (lineAt 1 (lines s)) ≡ bad r → readPlan s ≡ bad r
+    unfolding readPlan readLines
+    second-decides r e = rw (x, e)
+
+    module _ (my : List ℕ) (y : matrixLine (bytesOf "my=") (lineAt 1 (lines s)) ≡ good my) where
+      abbrev pair : CodeMeasurement
+      pair = record { mx = mx; my = my }
+
+      -- the third, where these are
+      pub third-decides : (r : Refusal) → nativeLine (bytesOf "base=") (lineAt 0 bases) ≡ bad r → readPlan s ≡ bad r
+      unfolding readPlan readLines nativeLines
+      third-decides r e = rw (x, y, e)
+
+      module _ (base : NativeNumber) (b : nativeLine (bytesOf "base=") (lineAt 0 bases) ≡ good base) where
+        -- the first bad one of the others, among the first 256 of them
+        pub rotation-decides : (before after : List (List ℕ)) (l : List ℕ) (ns : List NativeNumber) (r : Refusal) → turns ≡ before ++ l ∷ after → length before < mostRotations
+            → rotationLines (stringsOf pair) (length before) before ≡ good ns → rotationLine (stringsOf pair) l ≡ bad r → readPlan s ≡ bad r
+        unfolding readPlan readLines nativeLines planFrom
+        rotation-decides before after l ns r t h g e =
+            let d : rotationLines (stringsOf pair) mostRotations turns ≡ bad r = rw t (bad-behind (stringsOf pair) after l before ns r mostRotations h g e) in
+            rw (x, y, b, d)
+
+        -- a 257th gives 12, whatever it says
+        pub one-too-many : (before after : List (List ℕ)) (l : List ℕ) (ns : List NativeNumber) → turns ≡ before ++ l ∷ after → length before ≡ mostRotations
+            → rotationLines (stringsOf pair) (length before) before ≡ good ns → readPlan s ≡ bad PlanInput
+        unfolding readPlan readLines nativeLines planFrom
+        one-too-many before after l ns t h g =
+            let d : rotationLines (stringsOf pair) mostRotations turns ≡ bad PlanInput = rw (t, ← h) (full-behind (stringsOf pair) after l before ns g) in
+            rw (x, y, b, d)
+
+        -- 5 where every line is good
+        pub good-measures-0 : (ns : List NativeNumber) → rotationLines (stringsOf pair) mostRotations turns ≡ good ns → measuredBy (stringsOf pair) base ns ≡ 0 → readPlan s ≡ bad Identity
+        unfolding readPlan readLines nativeLines planFrom
+        good-measures-0 ns d z = rw (x, y, b, d, z)
 
 -- ---- what is read
 

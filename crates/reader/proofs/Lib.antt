@@ -2,6 +2,7 @@
 pub mod Lines
 pub mod Answers
 pub mod Good
+pub mod First
 pub mod Sound
 pub mod Measured
 pub mod Heads
