@@ -4,7 +4,6 @@ use Prim.Native.Nat.{_-_, _≤_}
 use native.Mathlib.Omega.{arith}
 use lib.ListN.{length, drop}
 use borrow.Author.Needs.{needs}
-use Rattle.natives.specs.Arrays.{at}
 use Rattle.natives.proofs.Arrays.{strings-held}
 use Rattle.reader.specs.Lines.{lines}
 use Rattle.reader.specs.Plans.{stringsOf}
