@@ -10,21 +10,22 @@ use Rattle.bicycle_common.specs.declared.Pauli.{Pauli}
 use Rattle.bicycle_common.specs.declared.Pauli.the-variants.{I, X, Z, Y}
 use Rattle.bicycle_common.specs.declared.BicycleISA.the-variants.{Automorphism, Measure}
 use Rattle.bicycle_common.specs.declared.Refusal.the-variants.{Matrix as NoMatrix, PivotIdentity, NativeRange}
+use Rattle.bicycle_common.specs.Refusals.{refused}
 use Rattle.bicycle_common.specs.Letters.{isI, rank, same, clash, anticommutingLetters}
 use Rattle.bicycle_common.specs.Automorphisms.{inverse}
 use Rattle.pauli_string.specs.Strings.{qubits, letterAt, hasPivot}
 use Rattle.pauli_string.specs.declared.StringAnswer.the-variants.{Is as StringIs}
 use Rattle.native_measurement.specs.declared.ImplementationAnswer.{ImplementationAnswer}
-use Rattle.native_measurement.specs.declared.ImplementationAnswer.the-variants.{Is as Three, Refused as NoInstructions}
+use Rattle.native_measurement.specs.declared.ImplementationAnswer.the-variants.{Is as Three}
 use Rattle.native_measurement.specs.Natives.{natives, nativeOf}
-use Rattle.native_measurement.specs.Answers.{implementationAt}
+use Rattle.native_measurement.specs.Answers.{implementationAt, toldImplementation}
 use Rattle.measurement.specs.Matrices.{side, isBytes, ofBytes}
 use Rattle.measurement.specs.Measures.{nativeString}
 use Rattle.measurement.specs.Answers.{measuresBytes}
 use Rattle.compile.specs.declared.RotationAnswer.{RotationAnswer}
 use Rattle.compile.specs.declared.RotationAnswer.the-variants.{Is as Five, Refused as NoRotation}
 use Rattle.compile.proofs.Expansions.{with-string}
-use Rattle.compile.specs.Expansions.{alone, around, rotationBy, rotationInstructions}
+use Rattle.compile.specs.Expansions.{alone, around, rotationBy, rotationInstructions, toldRotation}
 
 -- ---- a native
 
@@ -35,7 +36,7 @@ three n = Three (Automorphism (nativeOf n .automorphism)) (Measure (nativeOf n .
 pub native-expands : (n : ℕ) → n < natives → implementationAt n ≡ three n
 native-expands n h = simp (lt-ltb n natives h)
 
-pub no-native : (n : ℕ) → natives ≤ n → implementationAt n ≡ NoInstructions NativeRange
+pub no-native : (n : ℕ) → natives ≤ n → toldImplementation (implementationAt n) ≡ refused 9 NativeRange
 no-native n h = simp (le-ltb n natives h)
 
 -- ---- a rotation
@@ -77,13 +78,13 @@ module _ (mx my : List ℕ) (n : ℕ) where
   rotation = rotationInstructions qubits side mx my n
 
   -- 3 where one of the two is no matrix
-  pub rotation-3 : (isBytes side mx && isBytes side my) ≡ false → rotation ≡ NoRotation NoMatrix
+  pub rotation-3 : (isBytes side mx && isBytes side my) ≡ false → toldRotation rotation ≡ refused 15 NoMatrix
   unfolding rotationInstructions
   rotation-3 e = rw e
 
   module _ (good : (isBytes side mx && isBytes side my) ≡ true) where
     -- then 11 where n is no native
-    pub rotation-11 : natives ≤ n → rotation ≡ NoRotation NativeRange
+    pub rotation-11 : natives ≤ n → toldRotation rotation ≡ refused 15 NativeRange
     unfolding rotationInstructions
     rotation-11 h = rw (good, le-ltb n natives h)
 
@@ -95,9 +96,9 @@ module _ (mx my : List ℕ) (n : ℕ) where
           sym (with-string qubits side mx my n (record { 0 = string }) e)
 
       -- or 10 where its string has no letter on the pivot
-      pub rotation-10 : hasPivot qubits string ≡ false → rotation ≡ NoRotation PivotIdentity
+      pub rotation-10 : hasPivot qubits string ≡ false → toldRotation rotation ≡ refused 15 PivotIdentity
       unfolding hasPivot
-      rotation-10 e = by-string ∙ without-letter (implementationAt n) (letterAt qubits string 0) e
+      rotation-10 e = ap toldRotation (by-string ∙ without-letter (implementationAt n) (letterAt qubits string 0) e)
 
       -- else the five instructions
       pub rotation-expands : hasPivot qubits string ≡ true → Expands n (letterAt qubits string 0) rotation

@@ -7,9 +7,10 @@ use Prim.Native.String.{String}
 use native.Mathlib.Omega.{arith}
 use lib.ListN.{length, getD, take, drop}
 use lib.Seq.{take-append-seam}
-use borrow.Author.Tests.{le-ltb}
+use borrow.Author.Tests.{lt-ltb, le-ltb}
 use Rattle.bicycle_common.specs.declared.Refusal.{Refusal}
-use Rattle.bicycle_common.specs.declared.Refusal.the-variants.{Identity, PlanInput}
+use Rattle.bicycle_common.specs.declared.Refusal.the-variants.{Identity, Room, PlanInput}
+use Rattle.bicycle_common.specs.Refusals.{refused}
 use Rattle.bicycle_common.specs.Bytes.{bytesOf}
 use Rattle.bicycle_common.specs.Letters.{rank, same, clash}
 use Rattle.bicycle_common.specs.Ranges.{sum, allBelow, listFrom}
@@ -24,7 +25,8 @@ use Rattle.measurement.specs.Measures.{action, packed, placed, measured as meas
 use Rattle.table.specs.Plans.{Gives}
 use Rattle.compile.specs.Expansions.{rotationBy, spaced}
 use Rattle.reader.specs.Lines.{newline, lines, lineAt, begins, isLine}
-use Rattle.reader.specs.Plans.{Plan, good, bad, stringsOf, numbers, measuredBy, measured, mostRotations, matrixLine, nativeLine, rotationLine, rotationLines, planFrom, nativeLines, readLines, readPlan}
+use Rattle.reader.specs.Plans.{Plan, Read, good, bad, stringsOf, numbers, measuredBy, measured, mostRotations, matrixLine, nativeLine, rotationLine, rotationLines, planFrom, nativeLines, readLines, readPlan}
+use Rattle.reader.specs.Answers.{planAnswer, toldPlan}
 use Rattle.reader.proofs.First.{bad-behind, full-behind}
 use Rattle.reader.proofs.Sound.{read-gives}
 use Rattle.reader.proofs.Measured.{measures-zero, zero-base}
@@ -33,7 +35,7 @@ use Rattle.listing.specs.declared.ListAnswer.{ListAnswer}
 use Rattle.listing.specs.declared.ListAnswer.the-variants.{Is}
 use Rattle.listing.specs.Listings.{baseText, rotationText, rotationsText, rotationShifts, shifts, listing, planText, output}
 use Rattle.listing.specs.Stated.{stated, matrices}
-use Rattle.listing.specs.Answers.{Written}
+use Rattle.listing.specs.Answers.{Written, toldList}
 use Rattle.listing.proofs.ShiftCount.{shifts-count}
 use Rattle.listing.proofs.Lengths.{output-length, output-bounded}
 use Rattle.listing.proofs.ReadBack.{read-back, list-back}
@@ -145,6 +147,10 @@ module _ (s : List ℕ) where
         unfolding readPlan readLines nativeLines planFrom
         good-measures-0 ns d z = rw (x, y, b, d, z)
 
+-- a plan that is refused carries zeros: two matrices, the base, what is measured, the count, the rotations
+pub refused-plan : (s : List ℕ) (r : Refusal) → readPlan s ≡ bad r → toldPlan (planAnswer (readPlan s)) ≡ refused (36 + 36 + 3 + 256) r
+refused-plan s r e = ap (λ (x : Read Plan). toldPlan (planAnswer x)) e
+
 -- ---- what is read
 
 module _ (s : List ℕ) (p : Plan) (e : readPlan s ≡ good p) where
@@ -185,6 +191,14 @@ front-decides n s h = output-bounded n s (omega arith)
 -- no output is longer
 pub longest-output : (s : List ℕ) → length (output s) ≤ 17496
 longest-output = output-length
+
+-- 9 where there is no room for all of it, with the length needed; the buffer is as it was
+module _ (s out after : List ℕ) (r : ListAnswer) (w : Written (output s) out r after) (h : length out < length (output s)) where
+  pub no-room-9 : toldList r ≡ refused 1 (Room (length (output s)))
+  no-room-9 = ap toldList (w .answer) ∙ simp (lt-ltb (length out) (length (output s)) h)
+
+  pub nothing-written : after ≡ out
+  nothing-written = w .buffer ∙ simp (lt-ltb (length out) (length (output s)) h)
 
 -- so `plan`, which lends the first 4,096 bytes of its input and 65,536 bytes for the text, prints the whole output of every input
 module _ (s out after : List ℕ) (r : ListAnswer) (long : length out ≡ 65536) (w : Written (output (take 4096 s)) out r after) where
