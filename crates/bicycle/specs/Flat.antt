@@ -1,8 +1,32 @@
 -- Answers as flat structs, and that each tells the same as the enum. Assumes nothing.
+use mathlib.Core.Bool.{cond}
 use mathlib.Core.Path.{_≡_, refl, sym, ap, _∙_}
 use mathlib.Core.List.{List, [], _∷_}
 use Prim.Native.Nat.{ℕ}
+use lib.Dec.{ltb}
+use lib.ListN.{length}
+use Rattle.bicycle_common.specs.declared.Pauli.{Pauli}
+use Rattle.bicycle_common.specs.declared.Anticommuting.{Anticommuting}
+use Rattle.bicycle_common.specs.declared.Anticommuting.the-variants.{Letters, Identity}
+use Rattle.bicycle_common.specs.declared.LetterAnswer.{LetterAnswer}
+use Rattle.bicycle_common.specs.declared.LetterAnswer.the-variants.{Is as LetterIs, Refused as NoLetter}
+use Rattle.bicycle_common.specs.declared.AutomorphismData.{AutomorphismData}
 use Rattle.bicycle_common.specs.Refusals.{Told, numberOf, neededOf}
+use Rattle.bicycle_common.specs.Letters.{flag, capital, anticommutingLetters, toldLetter}
+use Rattle.bicycle_common.specs.Automorphisms.{component, inverse, generators}
+use Rattle.text.specs.declared.WriteAnswer.{WriteAnswer}
+use Rattle.text.specs.declared.WriteAnswer.the-variants.{Is as Wrote, Refused as NotWritten}
+use Rattle.text.specs.Reads.{Read}
+use Rattle.text.specs.Fronts.{lengthIn, frontIn, toldWrite}
+use Rattle.pauli_string.specs.declared.BoolAnswer.{BoolAnswer}
+use Rattle.pauli_string.specs.declared.BoolAnswer.the-variants.{Is as BoolIs, Refused as NoBool}
+use Rattle.pauli_string.specs.declared.StringAnswer.{StringAnswer}
+use Rattle.pauli_string.specs.declared.StringAnswer.the-variants.{Is as StringIs, Refused as NoString}
+use Rattle.pauli_string.specs.Answers.{toldBool, toldString}
+use Rattle.native_measurement.specs.Natives.{natives}
+use Rattle.table.specs.declared.NumberAnswer.{NumberAnswer}
+use Rattle.table.specs.declared.NumberAnswer.the-variants.{Is as NumberIs, Refused as NoNumber}
+use Rattle.table.specs.Answers.{toldNumber}
 use Rattle.builder.specs.declared.BuildAnswer.{BuildAnswer}
 use Rattle.builder.specs.declared.BuildAnswer.the-variants.{Is as Built, Refused as NotBuilt}
 use Rattle.builder.specs.Answers.{After, toldBuild}
@@ -16,6 +40,10 @@ use Rattle.lookup.specs.Answers.{Lookup, Leaves, toldLookup}
 use Rattle.bicycle.specs.declared.BuildResult.{BuildResult}
 use Rattle.bicycle.specs.declared.CheckResult.{CheckResult}
 use Rattle.bicycle.specs.declared.LookupResult.{LookupResult}
+use Rattle.bicycle.specs.declared.ValueResult.{ValueResult}
+use Rattle.bicycle.specs.declared.TextResult.{TextResult}
+use Rattle.bicycle.specs.declared.LetterResult.{LetterResult}
+use Rattle.bicycle.specs.declared.AutomorphismResult.{AutomorphismResult}
 
 -- a struct with the number n and the values vs says what a caller is told
 abbrev pub Says : ℕ → List ℕ → Told → Type 0
@@ -89,3 +117,90 @@ lookup-says (NotFound r) = ((refl, refl), refl)
 pub record LookupTells (o : Lookup) (before : List ℕ) (r : LookupResult) (after : List ℕ) : Type 0 where
   pub answer : r ≡ flatLookup (o .answer)
   pub leaves : Leaves o before (o .answer) after
+
+-- ---- one value
+
+-- the refusal of number n carries a zero
+abbrev pub valueRefusal : ℕ → ValueResult
+valueRefusal n = record { number = n; value = 0 }
+
+abbrev pub valueIs : ℕ → ValueResult
+valueIs v = record { number = 0; value = v }
+
+abbrev pub flatBool : BoolAnswer → ValueResult
+flatBool (BoolIs b) = valueIs (flag b)
+flatBool (NoBool r) = valueRefusal (numberOf r)
+
+abbrev pub flatString : StringAnswer → ValueResult
+flatString (StringIs p) = valueIs (p .0)
+flatString (NoString r) = valueRefusal (numberOf r)
+
+abbrev pub flatNumber : NumberAnswer → ValueResult
+flatNumber (NumberIs n) = valueIs n
+flatNumber (NoNumber r) = valueRefusal (numberOf r)
+
+-- the struct says what the enum does
+pub bool-says : (a : BoolAnswer) → Says (flatBool a .number) (flatBool a .value ∷ []) (toldBool a)
+bool-says (BoolIs b) = (refl, refl)
+bool-says (NoBool r) = (refl, refl)
+
+pub string-says : (a : StringAnswer) → Says (flatString a .number) (flatString a .value ∷ []) (toldString a)
+string-says (StringIs p) = (refl, refl)
+string-says (NoString r) = (refl, refl)
+
+pub number-says : (a : NumberAnswer) → Says (flatNumber a .number) (flatNumber a .value ∷ []) (toldNumber a)
+number-says (NumberIs n) = (refl, refl)
+number-says (NoNumber r) = (refl, refl)
+
+-- a native's number as it is passed on: one that is none stands for the first that is none
+abbrev pub narrow : ℕ → ℕ
+narrow n = cond (ltb n natives) n natives
+
+-- ---- text in a lent buffer
+
+-- the refusal of number n carries a zero, and the length needed, k
+abbrev pub textRefusal : ℕ → ℕ → TextResult
+textRefusal k n = record { needed = k; length = 0; number = n }
+
+abbrev pub flatWrite : WriteAnswer → TextResult
+flatWrite (Wrote n) = record { needed = 0; length = n; number = 0 }
+flatWrite (NotWritten r) = textRefusal (neededOf r) (numberOf r)
+
+-- the struct says what the enum does, the length needed too
+pub text-says : (a : WriteAnswer) → Says (flatWrite a .number) (flatWrite a .length ∷ []) (toldWrite a) × (flatWrite a .needed ≡ toldWrite a .needed)
+text-says (Wrote n) = ((refl, refl), refl)
+text-says (NotWritten r) = ((refl, refl), refl)
+
+-- r is the answer where the text t, or its refusal, is written to a buffer, and the buffer is left so
+pub record TextTells (t : Read (List ℕ)) (before : List ℕ) (r : TextResult) (after : List ℕ) : Type 0 where
+  pub answer : r ≡ flatWrite (lengthIn (length before) t)
+  pub buffer : after ≡ frontIn before t
+
+-- ---- letters
+
+-- the refusal of number n carries zeros
+abbrev pub letterRefusal : ℕ → LetterResult
+letterRefusal n = record { number = n; letter = 0; first = 0; second = 0 }
+
+-- the capital c, and those of the letters that anticommute
+abbrev pub capitals : ℕ → Anticommuting → LetterResult
+capitals c (Letters p0 p1) = record { number = 0; letter = c; first = capital p0; second = capital p1 }
+capitals c Identity = record { number = 0; letter = c; first = 0; second = 0 }
+
+abbrev pub ofLetter : Pauli → LetterResult
+ofLetter l = capitals (capital l) (anticommutingLetters l)
+
+abbrev pub flatLetter : LetterAnswer → LetterResult
+flatLetter (LetterIs l) = ofLetter l
+flatLetter (NoLetter r) = letterRefusal (numberOf r)
+
+-- ---- automorphisms
+
+abbrev pub flatAutomorphism : AutomorphismData → AutomorphismResult
+flatAutomorphism a = record {
+  generators = generators (component (a .x)) (component (a .y));
+  x = component (a .x);
+  y = component (a .y);
+  «inverse_x» = component (inverse a .x);
+  «inverse_y» = component (inverse a .y);
+}

@@ -4,7 +4,6 @@ use bicycle_common::LetterAnswer;
 use bicycle_common::Outcome;
 use bicycle_common::Pauli;
 use builder::BuildAnswer;
-use listing::ListAnswer;
 use lookup::LookupAnswer;
 use measurement::CodeMeasurement;
 use native_measurement::NativeAnswer;
@@ -19,6 +18,7 @@ use shown::IDENTITY;
 use shown::say;
 use table::NumberAnswer;
 use table_check::CheckAnswer;
+use text::WriteAnswer;
 ghost use Prim.Native.Nat.{_≤_, _<_};
 ghost use lib.ListN.{length};
 
@@ -319,8 +319,8 @@ fn tables() {
 fn list(name: &[u8], input: &[u8], out: &mut [u8]) {
     case(name);
     match listing::list(input, out) {
-        ListAnswer::Is(length) => shown::number(length as u64),
-        ListAnswer::Refused(r) => shown::refused(r),
+        WriteAnswer::Is(length) => shown::number(length as u64),
+        WriteAnswer::Refused(r) => shown::refused(r),
     }
     end();
     left(out);

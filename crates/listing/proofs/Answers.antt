@@ -1,19 +1,17 @@
--- What the reader answers can be printed, its text is the output, and a text that was put from place 0 on is written. Assumes nothing.
+-- What the reader answers can be printed, and its text is the output. Assumes nothing.
 use mathlib.Core.List.{List, [], _∷_, _++_}
 use mathlib.Core.Path.{_≡_, refl, ap, subst, _∙_}
-use Prim.Native.Nat.{ℕ, zero, suc, _+_, _-_, _*_, _<_, _≤_}
+use Prim.Native.Nat.{ℕ, zero, suc, _+_, _-_, _*_, _<_}
 use native.Mathlib.Omega.{arith}
 use lib.ListN.{length, take, getD, replicate, length-append, length-replicate}
 use lib.Seq.{length-take-le, take-append-seam}
-use borrow.Author.Tests.{lt-ltb, le-ltb}
 use Rattle.bicycle_common.specs.declared.Refusal.{Refusal}
-use Rattle.bicycle_common.specs.declared.Refusal.the-variants.{Room}
 use Rattle.bicycle_common.specs.declared.Outcome.the-variants.{Done, Refused as NotDone}
 use Rattle.bicycle_common.specs.Refusals.{numberOf}
 use Rattle.bicycle_common.specs.Ranges.{allBelow}
 use Rattle.text.specs.Puts.{Put}
 use Rattle.text.specs.Decimals.{decimal}
-use Rattle.text.proofs.Puts.{then, put-length, put-whole}
+use Rattle.text.proofs.Puts.{then}
 use Rattle.pauli_string.specs.Strings.{qubits}
 use Rattle.native_measurement.specs.declared.NativeNumber.{NativeNumber}
 use Rattle.native_measurement.specs.Natives.{natives}
@@ -22,14 +20,14 @@ use Rattle.natives.specs.Arrays.{at, strings}
 use Rattle.natives.proofs.Arrays.{strings-at}
 use Rattle.table.specs.Plans.{All, Supported}
 use Rattle.reader.specs.declared.PlanAnswer.{PlanAnswer}
-use Rattle.reader.specs.Plans.{Plan, Read, good, bad, stringsOf, numbers, mostRotations, readPlan}
+use Rattle.text.specs.Reads.{Read, good, bad}
+use Rattle.reader.specs.Plans.{Plan, stringsOf, numbers, mostRotations, readPlan}
 use Rattle.reader.specs.Answers.{native0, planAnswer}
 use Rattle.reader.specs.Sound.{Sound}
 use Rattle.reader.proofs.Sound.{read-sound}
 use Rattle.reader.proofs.Measured.{measured-string}
-use Rattle.listing.specs.declared.ListAnswer.the-variants.{Is, Refused}
 use Rattle.listing.specs.Listings.{lineOf, headText, rotationText, rotationsText, listing, planText, textOf, output}
-use Rattle.listing.specs.Answers.{listingOf, answerText, Printable, Written}
+use Rattle.listing.specs.Answers.{listingOf, answerText, Printable}
 use Rattle.listing.proofs.ShiftCount.{shifts-count}
 
 -- ---- the listing of an answer
@@ -116,31 +114,3 @@ module _ (s : List ℕ) (a : PlanAnswer) (e : a ≡ planAnswer (readPlan s)) whe
   pub read-text : answerText a ≡ output s
   unfolding output
   read-text = rw e (answer-text (readPlan s))
-
--- ---- a text in the front of a buffer
-
--- the text was put to an empty buffer, for its length
-module _ (t before : List ℕ) {z : List ℕ} {needed : ℕ} (p : Put [] 0 t needed z) where
-  no-bytes : (l : List ℕ) → length l ≡ 0 → l ≡ []
-  no-bytes [] e = refl
-  no-bytes (b ∷ l) e = absurd (omega arith)
-
-  nothing : z ≡ []
-  nothing = no-bytes z (put-length p)
-
-  long : needed ≡ length t
-  long = omega (arith, p .moves)
-
-  pub written-short : length (z ++ before) < needed → Written t before (Refused (Room needed)) (z ++ before)
-  written-short h =
-      let k : length before < needed = rw nothing at h in
-      let l : length before < length t = omega (arith, long) in
-      record { answer = rw (lt-ltb (length before) (length t) l, ← long); buffer = rw (nothing, lt-ltb (length before) (length t) l) }
-
-  pub written-whole : {after : List ℕ} {n : ℕ} → needed ≤ length (z ++ before) → Put (z ++ before) 0 t n after → Written t before (Is n) after
-  written-whole {after} {n} h q =
-      let k : needed ≤ length before = rw nothing at h in
-      let l : length t ≤ length before = omega (arith, long) in
-      let m : n ≡ length t = omega (arith, q .moves) in
-      let g : Put before 0 t n after = rw nothing at q in
-      record { answer = rw (le-ltb (length before) (length t) l, m); buffer = rw (le-ltb (length before) (length t) l, ← m) (put-whole g (omega arith)) }

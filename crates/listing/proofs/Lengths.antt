@@ -24,7 +24,8 @@ use Rattle.native_measurement.specs.Natives.{natives, nativeOf}
 use Rattle.native_measurement.specs.Answers.{implementation}
 use Rattle.table.specs.Plans.{All, Supported}
 use Rattle.compile.specs.Expansions.{around, rotationBy, nativeExpansion, rotationExpansion, expansionText, spaced}
-use Rattle.reader.specs.Plans.{Plan, Read, good, bad, stringsOf, numbers, measured, readPlan}
+use Rattle.text.specs.Reads.{Read, good, bad}
+use Rattle.reader.specs.Plans.{Plan, stringsOf, numbers, measured, readPlan}
 use Rattle.reader.specs.Sound.{Sound}
 use Rattle.reader.proofs.Sound.{read-sound}
 use Rattle.reader.proofs.Bound.{read-bounded}

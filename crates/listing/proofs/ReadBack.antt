@@ -22,7 +22,8 @@ use Rattle.native_measurement.specs.declared.NativeNumber.{NativeNumber}
 use Rattle.native_measurement.specs.Answers.{implementationAt}
 use Rattle.compile.specs.Expansions.{rotationBy, nativeExpansion, rotationExpansion, spaced, expansionText}
 use Rattle.reader.specs.Lines.{newline, lines, lineAt, begins, valueIn}
-use Rattle.reader.specs.Plans.{Plan, good, stringsOf, measured, mostRotations, matrixLine, planFrom, nativeLines, readLines, readPlan}
+use Rattle.text.specs.Reads.{good}
+use Rattle.reader.specs.Plans.{Plan, stringsOf, measured, mostRotations, matrixLine, planFrom, nativeLines, readLines, readPlan}
 use Rattle.reader.specs.Sound.{Sound}
 use Rattle.reader.proofs.Good.{matrix-shape}
 use Rattle.reader.proofs.Sound.{read-parts, read-sound}

@@ -1,14 +1,11 @@
--- What the writer needs and leaves: the text of an answer, and a text in the front of a lent buffer. Assumes nothing.
-use mathlib.Core.Bool.{true, cond}
-use mathlib.Core.List.{List, [], _∷_, _++_}
+-- What the writer needs, and the text of an answer. Assumes nothing.
+use mathlib.Core.Bool.{true}
+use mathlib.Core.List.{List}
 use mathlib.Core.Path.{_≡_}
 use Prim.Native.Nat.{ℕ, _^_, _<_, _≤_}
-use lib.Dec.{ltb}
-use lib.ListN.{length, getD, take, drop}
-use Rattle.bicycle_common.specs.declared.Refusal.the-variants.{Room}
+use lib.ListN.{length, getD, take}
 use Rattle.bicycle_common.specs.declared.Outcome.{Outcome}
 use Rattle.bicycle_common.specs.declared.Outcome.the-variants.{Done, Refused as NotDone}
-use Rattle.bicycle_common.specs.Refusals.{Told, answered, refused}
 use Rattle.pauli_string.specs.Strings.{qubits}
 use Rattle.native_measurement.specs.declared.NativeNumber.{NativeNumber}
 use Rattle.native_measurement.specs.Natives.{natives}
@@ -17,8 +14,6 @@ use Rattle.reader.specs.declared.PlanAnswer.{PlanAnswer}
 use Rattle.reader.specs.Plans.{stringsOf, mostRotations}
 use Rattle.reader.specs.Answers.{native0}
 use Rattle.listing.specs.Listings.{listing, refusalText}
-use Rattle.listing.specs.declared.ListAnswer.{ListAnswer}
-use Rattle.listing.specs.declared.ListAnswer.the-variants.{Is, Refused}
 
 -- ---- what a read plan prints
 
@@ -46,23 +41,3 @@ pub record Printable (a : PlanAnswer) : Type 0 where
   pub base : a .base .0 < natives
   pub measures : a .measures .0 < 4 ^ qubits
   pub rotations : Small (a .rotations) (a .count)
-
--- ---- text in a lent buffer
-
--- the length of the text; 9, with the length needed, where a buffer of length room has no place for it
-abbrev pub lengthIn : ℕ → List ℕ → ListAnswer
-lengthIn room t = cond (ltb room (length t)) (Refused (Room (length t))) (Is (length t))
-
--- the text in front and the rest as it was; all as it was where there is no room
-abbrev pub frontIn : List ℕ → List ℕ → List ℕ
-frontIn before t = cond (ltb (length before) (length t)) before (t ++ drop (length t) before)
-
--- the text t was written, or refused
-pub record Written (t before : List ℕ) (r : ListAnswer) (after : List ℕ) : Type 0 where
-  pub answer : r ≡ lengthIn (length before) t
-  pub buffer : after ≡ frontIn before t
-
--- the length
-abbrev pub toldList : ListAnswer → Told
-toldList (Is n) = answered (n ∷ [])
-toldList (Refused r) = refused 1 r

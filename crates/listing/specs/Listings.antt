@@ -16,7 +16,8 @@ use Rattle.native_measurement.specs.Natives.{nativeOf}
 use Rattle.native_measurement.specs.Answers.{implementation, implementationAt}
 use Rattle.compile.specs.Expansions.{rotationBy, nativeExpansion, rotationExpansion, expansionText}
 use Rattle.reader.specs.Lines.{newline}
-use Rattle.reader.specs.Plans.{Plan, Read, good, bad, stringsOf, measured, readPlan}
+use Rattle.text.specs.Reads.{Read, good, bad}
+use Rattle.reader.specs.Plans.{Plan, stringsOf, measured, readPlan}
 
 -- ---- lines
 

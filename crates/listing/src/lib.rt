@@ -3,90 +3,28 @@
 // Added: the original prints no plans. The form is document 01's, under "Plan listing". Text is put at a place of the
 // buffer as far as there is room, and the next place is answered, so that the same calls on an empty buffer tell the
 // length needed.
-use bicycle_common::BicycleISA;
 use bicycle_common::Outcome;
 use bicycle_common::Refusal;
-use compile::RotationAnswer;
-use native_measurement::ImplementationAnswer;
 use native_measurement::NativeNumber;
 use pauli_string::PauliString;
 use reader::PlanAnswer;
+use text::WriteAnswer;
 ghost use mathlib.Core.Path.{_≡_};
 ghost use mathlib.Core.List.{[], _∷_, _++_};
 ghost use Prim.Native.Nat.{_+_, _*_, _<_, _≤_, _^_};
 ghost use lib.ListN.{length, take};
 ghost use Rattle.bicycle_common.specs.Bytes.{bytesOf};
-ghost use Rattle.bicycle_common.specs.Instructions.{instructionText};
 ghost use Rattle.text.specs.Puts.{Put};
+ghost use Rattle.text.specs.Reads.{good};
+ghost use Rattle.text.specs.Fronts.{Written};
 ghost use Rattle.text.specs.Decimals.{decimal};
 ghost use Rattle.pauli_string.specs.Strings.{qubits};
 ghost use Rattle.pauli_string.specs.Text.{text};
 ghost use Rattle.native_measurement.specs.Natives.{natives};
 ghost use Rattle.natives.specs.Arrays.{at};
-ghost use Rattle.compile.specs.Expansions.{nativeExpansion, rotationExpansion, space, expansionText};
 ghost use Rattle.reader.specs.Lines.{newline};
 ghost use Rattle.listing.specs.Listings.{lineOf, baseText, rotationText, rotationsText, headText, output};
-ghost use Rattle.listing.specs.Answers.{Small, Printable, listingOf, answerText, Written};
-
-// The length of the text that was written, or the refusal.
-pub enum ListAnswer {
-    Is(usize),
-    Refused(Refusal),
-}
-
-// ---- expansions
-
-fn put_instruction(out: &mut [u8], place: usize, i: BicycleISA) -> usize
-    requires { ⌜ place + 9 < 2 ^ 32 ⌝ }
-    ensures { λ r. ⌜ Put (now (out .entry)) place (instructionText i) r (now (out .exit)) × (r ≤ place + 9) ⌝ }
-{
-    let t = i.display();
-    let bytes = t.bytes;
-    let len = t.len;
-    text::put_bytes_unchecked(out, place, &bytes[0..len])
-}
-
-// An instruction behind another.
-fn put_next(out: &mut [u8], place: usize, i: BicycleISA) -> usize
-    requires { ⌜ place + 10 < 2 ^ 32 ⌝ }
-    ensures { λ r. ⌜ Put (now (out .entry)) place (space ∷ instructionText i) r (now (out .exit)) × (r ≤ place + 10) ⌝ }
-{
-    let next = text::put_byte_unchecked(out, place, b' ');
-    put_instruction(out, next, i)
-}
-
-fn put_three(out: &mut [u8], place: usize, a: BicycleISA, b: BicycleISA, c: BicycleISA) -> usize
-    requires { ⌜ place + 29 < 2 ^ 32 ⌝ }
-    ensures { λ r. ⌜ Put (now (out .entry)) place (expansionText (a ∷ b ∷ c ∷ [])) r (now (out .exit)) × (r ≤ place + 29) ⌝ }
-{
-    let first = put_instruction(out, place, a);
-    let second = put_next(out, first, b);
-    put_next(out, second, c)
-}
-
-fn put_native_expansion(out: &mut [u8], place: usize, expansion: ImplementationAnswer) -> usize
-    requires { ⌜ place + 29 < 2 ^ 32 ⌝ }
-    ensures { λ r. ⌜ Put (now (out .entry)) place (expansionText (nativeExpansion expansion)) r (now (out .exit)) × (r ≤ place + 29) ⌝ }
-{
-    match expansion {
-        ImplementationAnswer::Is(a, b, c) => put_three(out, place, a, b, c),
-        ImplementationAnswer::Refused(_) => place,
-    }
-}
-
-fn put_rotation_expansion(out: &mut [u8], place: usize, expansion: RotationAnswer) -> usize
-    requires { ⌜ place + 49 < 2 ^ 32 ⌝ }
-    ensures { λ r. ⌜ Put (now (out .entry)) place (expansionText (rotationExpansion expansion)) r (now (out .exit)) × (r ≤ place + 49) ⌝ }
-{
-    match expansion {
-        RotationAnswer::Is(a, b, c, d, e) => {
-            let third = put_three(out, place, a, b, c);
-            let fourth = put_next(out, third, d);
-            put_next(out, fourth, e)
-        }
-        RotationAnswer::Refused(_) => place,
-    }
-}
+ghost use Rattle.listing.specs.Answers.{Small, Printable, listingOf, answerText};
 
 // ---- lines
 
@@ -124,7 +62,7 @@ fn put_base(out: &mut [u8], place: usize, n: NativeNumber) -> usize
     ensures { λ r. ⌜ Put (now (out .entry)) place (baseText n) r (now (out .exit)) × (r ≤ place + 51) ⌝ }
 {
     let value = put_native(out, place, b"base=", n);
-    let end = put_native_expansion(out, value, native_measurement::implementation(n));
+    let end = display::put_native_unchecked(out, value, native_measurement::implementation(n));
     text::put_byte_unchecked(out, end, b'\n')
 }
 
@@ -134,7 +72,7 @@ fn put_rotation(out: &mut [u8], place: usize, n: NativeNumber, strings: &[u32]) 
 {
     let p = PauliString(strings[n.0 as usize]);
     let value = put_native(out, place, b"rotation=", n);
-    let end = put_rotation_expansion(out, value, compile::rotation_by_unchecked(n, p));
+    let end = display::put_rotation_unchecked(out, value, compile::rotation_by_unchecked(n, p));
     text::put_byte_unchecked(out, end, b'\n')
 }
 
@@ -207,21 +145,21 @@ fn put_answer(out: &mut [u8], plan: PlanAnswer) -> usize
 }
 
 // The same, or 9 and nothing written where there is no room for all of it.
-fn write(out: &mut [u8], plan: PlanAnswer) -> ListAnswer
+fn write(out: &mut [u8], plan: PlanAnswer) -> WriteAnswer
     requires { ⌜ Printable plan ⌝ }
-    ensures { λ r. ⌜ Written (answerText plan) (now (out .entry)) r (now (out .exit)) ⌝ }
+    ensures { λ r. ⌜ Written (good (answerText plan)) (now (out .entry)) r (now (out .exit)) ⌝ }
 {
     let needed = put_answer(&mut out[..0], plan);
     if out.len() < needed {
-        return ListAnswer::Refused(Refusal::Room(needed));
+        return WriteAnswer::Refused(Refusal::Room(needed));
     }
-    ListAnswer::Is(put_answer(out, plan))
+    WriteAnswer::Is(put_answer(out, plan))
 }
 
 // Reads the plan that the input states and writes its listing, or the number of its refusal, to the front of the buffer:
 // 9 where the buffer is shorter than the text.
-pub fn list(input: &[u8], out: &mut [u8]) -> ListAnswer
-    ensures { λ r. ⌜ Written (output (now (input .entry))) (now (out .entry)) r (now (out .exit)) ⌝ }
+pub fn list(input: &[u8], out: &mut [u8]) -> WriteAnswer
+    ensures { λ r. ⌜ Written (good (output (now (input .entry)))) (now (out .entry)) r (now (out .exit)) ⌝ }
 {
     let plan = reader::read(input);
     write(out, plan)

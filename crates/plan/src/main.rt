@@ -2,15 +2,15 @@
 //
 // The first 3,418 bytes of an input decide its output, which has at most 17,496 bytes (`crates/promises/specs/Listings.antt`),
 // so both buffers are long enough for every input.
-use listing::ListAnswer;
+use text::WriteAnswer;
 
 fn main() {
     let mut input = io::buffer();
     let n = io::read_full(0, &mut input);
     let mut out = io::large_buffer();
     match listing::list(&input[..n], &mut out) {
-        ListAnswer::Is(k) => show(&out, k),
-        ListAnswer::Refused(_) => (),
+        WriteAnswer::Is(k) => show(&out, k),
+        WriteAnswer::Refused(_) => (),
     }
 }
 

@@ -14,6 +14,10 @@ use Rattle.bicycle_common.specs.Refusals.{refused}
 use Rattle.bicycle_common.specs.Bytes.{bytesOf}
 use Rattle.bicycle_common.specs.Letters.{rank, same, clash}
 use Rattle.bicycle_common.specs.Ranges.{sum, allBelow, listFrom}
+use Rattle.text.specs.declared.WriteAnswer.{WriteAnswer}
+use Rattle.text.specs.declared.WriteAnswer.the-variants.{Is}
+use Rattle.text.specs.Reads.{Read, good, bad}
+use Rattle.text.specs.Fronts.{Written, toldWrite}
 use Rattle.text.specs.Decimals.{digitsUpTo, decimal, allDigits, numberFrom, isNumber}
 use Rattle.pauli_string.specs.Strings.{qubits, bit, letterAt, clashes, commute, conj, pivotBits, blank, hasPivot, rotate}
 use Rattle.pauli_string.specs.Text.{letters, text}
@@ -25,17 +29,14 @@ use Rattle.measurement.specs.Measures.{action, packed, placed, measured as meas
 use Rattle.table.specs.Plans.{Gives}
 use Rattle.compile.specs.Expansions.{rotationBy, spaced}
 use Rattle.reader.specs.Lines.{newline, lines, lineAt, begins, isLine}
-use Rattle.reader.specs.Plans.{Plan, Read, good, bad, stringsOf, numbers, measuredBy, measured, mostRotations, matrixLine, nativeLine, rotationLine, rotationLines, planFrom, nativeLines, readLines, readPlan}
+use Rattle.reader.specs.Plans.{Plan, stringsOf, numbers, measuredBy, measured, mostRotations, matrixLine, nativeLine, rotationLine, rotationLines, planFrom, nativeLines, readLines, readPlan}
 use Rattle.reader.specs.Answers.{planAnswer, toldPlan}
 use Rattle.reader.proofs.First.{bad-behind, full-behind}
 use Rattle.reader.proofs.Sound.{read-gives}
 use Rattle.reader.proofs.Measured.{measures-zero, zero-base}
 use Rattle.reader.proofs.Bound.{read-length}
-use Rattle.listing.specs.declared.ListAnswer.{ListAnswer}
-use Rattle.listing.specs.declared.ListAnswer.the-variants.{Is}
 use Rattle.listing.specs.Listings.{baseText, rotationText, rotationsText, rotationShifts, shifts, listing, planText, output}
 use Rattle.listing.specs.Stated.{stated, matrices}
-use Rattle.listing.specs.Answers.{Written, toldList}
 use Rattle.listing.proofs.ShiftCount.{shifts-count}
 use Rattle.listing.proofs.Lengths.{output-length, output-bounded}
 use Rattle.listing.proofs.ReadBack.{read-back, list-back}
@@ -193,20 +194,20 @@ pub longest-output : (s : List ℕ) → length (output s) ≤ 17496
 longest-output = output-length
 
 -- 9 where there is no room for all of it, with the length needed; the buffer is as it was
-module _ (s out after : List ℕ) (r : ListAnswer) (w : Written (output s) out r after) (h : length out < length (output s)) where
-  pub no-room-9 : toldList r ≡ refused 1 (Room (length (output s)))
-  no-room-9 = ap toldList (w .answer) ∙ simp (lt-ltb (length out) (length (output s)) h)
+module _ (s out after : List ℕ) (r : WriteAnswer) (w : Written (good (output s)) out r after) (h : length out < length (output s)) where
+  pub no-room-9 : toldWrite r ≡ refused 1 (Room (length (output s)))
+  no-room-9 = ap toldWrite (w .answer) ∙ simp (lt-ltb (length out) (length (output s)) h)
 
   pub nothing-written : after ≡ out
   nothing-written = w .buffer ∙ simp (lt-ltb (length out) (length (output s)) h)
 
 -- so `plan`, which lends the first 4,096 bytes of its input and 65,536 bytes for the text, prints the whole output of every input
-module _ (s out after : List ℕ) (r : ListAnswer) (long : length out ≡ 65536) (w : Written (output (take 4096 s)) out r after) where
+module _ (s out after : List ℕ) (r : WriteAnswer) (long : length out ≡ 65536) (w : Written (good (output (take 4096 s))) out r after) where
   whole : output (take 4096 s) ≡ output s
   whole = front-decides 4096 s (omega arith)
 
-  written : Written (output s) out r after
-  written = subst (λ (t : List ℕ). Written t out r after) whole w
+  written : Written (good (output s)) out r after
+  written = subst (λ (t : List ℕ). Written (good t) out r after) whole w
 
   fits : length (output s) ≤ length out
   fits = omega (arith, longest-output s)

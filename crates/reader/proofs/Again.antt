@@ -18,7 +18,8 @@ use Rattle.native_measurement.specs.declared.NativeNumber.{NativeNumber}
 use Rattle.native_measurement.specs.Natives.{natives}
 use Rattle.table.specs.Plans.{All, Supported}
 use Rattle.reader.specs.Lines.{newline, grow, lines, begins, isLine, valueIn}
-use Rattle.reader.specs.Plans.{good, numbers, nativeLine, rotationLine, rotationLines}
+use Rattle.text.specs.Reads.{good}
+use Rattle.reader.specs.Plans.{numbers, nativeLine, rotationLine, rotationLines}
 
 -- ---- whole lines
 

@@ -13,7 +13,7 @@ use Rattle.native_measurement.specs.declared.NativeNumber.{NativeNumber}
 use Rattle.reader.specs.declared.LineAnswer.{LineAnswer}
 use Rattle.reader.specs.declared.LineAnswer.the-variants.{Is, Refused}
 use Rattle.reader.specs.declared.MatrixAnswer.{MatrixAnswer}
-use Rattle.reader.specs.Plans.{Read, good, bad}
+use Rattle.text.specs.Reads.{Read, good, bad}
 use Rattle.reader.specs.Answers.{lineAnswer, matrixAnswer}
 
 -- ---- an answer tells all of what was read: it can be had back

@@ -17,7 +17,8 @@ use Rattle.text.specs.Decimals.{isNumber}
 use Rattle.native_measurement.specs.declared.NativeNumber.{NativeNumber}
 use Rattle.measurement.specs.declared.CodeMeasurement.{CodeMeasurement}
 use Rattle.reader.specs.Lines.{newline, lines, lineAt, lineLength, isLine, valueIn}
-use Rattle.reader.specs.Plans.{Plan, Read, good, bad, on, stringsOf, mostRotations, matrixLine, nativeLine, supported, rotationLine, rotationLines, planFrom, nativeLines, readLines, readPlan}
+use Rattle.text.specs.Reads.{Read, good, bad, on}
+use Rattle.reader.specs.Plans.{Plan, stringsOf, mostRotations, matrixLine, nativeLine, supported, rotationLine, rotationLines, planFrom, nativeLines, readLines, readPlan}
 use Rattle.reader.proofs.Lines.{lines-cons, lines-first, lines-rest, line-in}
 use Rattle.reader.proofs.Good.{both-good}
 

@@ -7,7 +7,8 @@ use lib.ListN.{length}
 use Rattle.bicycle_common.specs.declared.Refusal.{Refusal}
 use Rattle.bicycle_common.specs.declared.Refusal.the-variants.{PlanInput}
 use Rattle.native_measurement.specs.declared.NativeNumber.{NativeNumber}
-use Rattle.reader.specs.Plans.{good, bad, rotationLine, rotationLines}
+use Rattle.text.specs.Reads.{good, bad}
+use Rattle.reader.specs.Plans.{rotationLine, rotationLines}
 use Rattle.reader.proofs.Good.{both-good}
 
 module _ (f : ℕ → ℕ) (after : List (List ℕ)) (l : List ℕ) where

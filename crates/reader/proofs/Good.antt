@@ -14,7 +14,8 @@ use Rattle.native_measurement.specs.declared.NativeNumber.{NativeNumber}
 use Rattle.native_measurement.specs.Natives.{natives}
 use Rattle.measurement.specs.Matrices.{side, isBytes}
 use Rattle.reader.specs.Lines.{isLine, valueIn}
-use Rattle.reader.specs.Plans.{Read, good, bad, on, digitNumbers, matrixLine, inRange, nativeLine}
+use Rattle.text.specs.Reads.{Read, good, bad, on}
+use Rattle.reader.specs.Plans.{digitNumbers, matrixLine, inRange, nativeLine}
 
 -- ---- in general
 

@@ -11,7 +11,8 @@ use Rattle.bicycle_common.specs.Bytes.{bytesOf}
 use Rattle.measurement.specs.Matrices.{side, isBytes}
 use Rattle.reader.specs.declared.MatrixAnswer.{MatrixAnswer}
 use Rattle.reader.specs.Lines.{lines, lineAt, lineLength}
-use Rattle.reader.specs.Plans.{Read, bad, on, matrixLine, nativeLines, readLines, readPlan}
+use Rattle.text.specs.Reads.{Read, bad, on}
+use Rattle.reader.specs.Plans.{matrixLine, nativeLines, readLines, readPlan}
 use Rattle.reader.specs.Answers.{matrixAnswer}
 use Rattle.reader.proofs.Lines.{line-at, lines-behind}
 use Rattle.reader.proofs.Good.{matrix-good}

@@ -27,7 +27,8 @@ use Rattle.reader.specs.declared.LineAnswer.{LineAnswer}
 use Rattle.reader.specs.declared.LineAnswer.the-variants.{Is, Refused}
 use Rattle.reader.specs.declared.PlanAnswer.{PlanAnswer}
 use Rattle.reader.specs.Lines.{lines, lineLength}
-use Rattle.reader.specs.Plans.{Plan, stringsOf, numbers, measuredBy, Read, good, bad, on, nativeLine, supported, rotationLine, mostRotations, rotationLines, planFrom}
+use Rattle.text.specs.Reads.{Read, good, bad, on}
+use Rattle.reader.specs.Plans.{Plan, stringsOf, numbers, measuredBy, nativeLine, supported, rotationLine, mostRotations, rotationLines, planFrom}
 use Rattle.reader.specs.Answers.{lineAnswer, native0, planAnswer}
 use Rattle.reader.proofs.Lines.{lines-none, lines-at}
 use Rattle.reader.proofs.Good.{native-small}

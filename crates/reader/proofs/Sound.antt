@@ -13,7 +13,8 @@ use Rattle.native_measurement.specs.declared.NativeNumber.{NativeNumber}
 use Rattle.measurement.specs.declared.CodeMeasurement.{CodeMeasurement}
 use Rattle.table.specs.Plans.{All, Supported, Gives}
 use Rattle.reader.specs.Lines.{lines, lineAt}
-use Rattle.reader.specs.Plans.{Plan, good, stringsOf, numbers, measured, mostRotations, matrixLine, nativeLine, supported, rotationLine, rotationLines, planFrom, nativeLines, readLines, readPlan}
+use Rattle.text.specs.Reads.{good}
+use Rattle.reader.specs.Plans.{Plan, stringsOf, numbers, measured, mostRotations, matrixLine, nativeLine, supported, rotationLine, rotationLines, planFrom, nativeLines, readLines, readPlan}
 use Rattle.reader.specs.Sound.{Sound}
 use Rattle.reader.proofs.Good.{good-same, passed, passed-not, both-good, native-small, matrix-good}
 

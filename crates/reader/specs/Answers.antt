@@ -10,7 +10,8 @@ use Rattle.reader.specs.declared.LineAnswer.{LineAnswer}
 use Rattle.reader.specs.declared.LineAnswer.the-variants.{Is, Refused}
 use Rattle.reader.specs.declared.MatrixAnswer.{MatrixAnswer}
 use Rattle.reader.specs.declared.PlanAnswer.{PlanAnswer}
-use Rattle.reader.specs.Plans.{Plan, Read, good, bad, numbers, measured, mostRotations}
+use Rattle.text.specs.Reads.{Read, good, bad}
+use Rattle.reader.specs.Plans.{Plan, numbers, measured, mostRotations}
 
 -- of a line with a native
 abbrev pub lineAnswer : Read NativeNumber → LineAnswer

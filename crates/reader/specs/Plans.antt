@@ -8,6 +8,7 @@ use lib.ListN.{length, drop}
 use Rattle.bicycle_common.specs.declared.Refusal.{Refusal}
 use Rattle.bicycle_common.specs.declared.Refusal.the-variants.{Matrix, Identity, PivotIdentity, NativeRange, PlanInput}
 use Rattle.bicycle_common.specs.Bytes.{bytesOf}
+use Rattle.text.specs.Reads.{Read, good, bad, on}
 use Rattle.text.specs.Decimals.{allDigits, numberIn, isNumber}
 use Rattle.pauli_string.specs.Strings.{qubits, hasPivot}
 use Rattle.native_measurement.specs.declared.NativeNumber.{NativeNumber}
@@ -40,18 +41,6 @@ measuredBy f base ns = applied qubits f (f (base .0)) (numbers ns)
 
 abbrev pub measured : Plan → ℕ
 measured p = measuredBy (stringsOf (p .pair)) (p .base) (p .rotations)
-
--- ---- reading
-
--- what is read is good, or bad with a refusal
-pub data Read (A : Type 0) : Type 0 where
-  good : A → Read A
-  bad : Refusal → Read A
-
--- one thing is read after another: the first bad one decides
-abbrev pub on : {A B : Type 0} → Read A → (A → Read B) → Read B
-on (good a) next = next a
-on (bad r) next = bad r
 
 -- ---- one line
 

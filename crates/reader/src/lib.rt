@@ -19,7 +19,8 @@ ghost use Rattle.measurement.specs.Matrices.{side, isBytes, ofBytes};
 ghost use Rattle.natives.specs.Arrays;
 ghost use Rattle.natives.specs.Arrays.{at};
 ghost use Rattle.reader.specs.Lines.{lines, lineLength, begins, isLine};
-ghost use Rattle.reader.specs.Plans.{bad, digitNumbers, matrixLine, nativeLine, supported, rotationLine, planFrom, nativeLines, readPlan};
+ghost use Rattle.text.specs.Reads.{bad};
+ghost use Rattle.reader.specs.Plans.{digitNumbers, matrixLine, nativeLine, supported, rotationLine, planFrom, nativeLines, readPlan};
 ghost use Rattle.reader.specs.Answers.{lineAnswer, matrixAnswer, planAnswer};
 
 // The native of a line, or the refusal.

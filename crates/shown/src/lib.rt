@@ -3,13 +3,13 @@ use bicycle_common::BicycleISA;
 use bicycle_common::Outcome;
 use bicycle_common::Refusal;
 use compile::RotationAnswer;
-use listing::ListAnswer;
 use native_measurement::ImplementationAnswer;
 use native_measurement::NativeNumber;
 use pauli_string::BoolAnswer;
 use pauli_string::Letter;
 use pauli_string::PauliString;
 use pauli_string::StringAnswer;
+use text::WriteAnswer;
 
 pub const IDENTITY: [[u8; 6]; 6] = [
     [1, 0, 0, 0, 0, 0],
@@ -138,7 +138,7 @@ pub fn rotation(mx: &[u8], my: &[u8], n: NativeNumber) {
 pub fn plan(input: &[u8]) {
     let mut out = io::large_buffer();
     match listing::list(input, &mut out) {
-        ListAnswer::Is(length) => front(&out, length),
-        ListAnswer::Refused(r) => refused(r),
+        WriteAnswer::Is(length) => front(&out, length),
+        WriteAnswer::Refused(r) => refused(r),
     }
 }

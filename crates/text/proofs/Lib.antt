@@ -2,3 +2,4 @@
 pub mod Puts
 pub mod Decimals
 pub mod Written
+pub mod Fronts

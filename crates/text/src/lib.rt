@@ -3,6 +3,7 @@
 // Added: the original prints with the formatting of its language. A call that ends in `_unchecked` is an inner one between
 // our crates. It puts text at a place of a buffer as far as there is room, and answers the next place; so the same calls
 // on an empty buffer tell how long a text is.
+use bicycle_common::Refusal;
 ghost use mathlib.Core.Path.{_≡_};
 ghost use mathlib.Core.Bool.{true};
 ghost use mathlib.Core.List.{[], _∷_};
@@ -11,6 +12,12 @@ ghost use lib.ListN.{length};
 ghost use Rattle.bicycle_common.specs.Bytes.{digit};
 ghost use Rattle.text.specs.Puts.{Put};
 ghost use Rattle.text.specs.Decimals.{decimal, isDigit, allDigits, numberIn, needlessZero, readNumber};
+
+// The length of a text that was written, or the refusal.
+pub enum WriteAnswer {
+    Is(usize),
+    Refused(Refusal),
+}
 
 // A number, or that the text is none.
 pub enum NumberAnswer {

@@ -14,8 +14,8 @@ put-native-requires c κs = search needs
 implementation-requires : tie.Need-implementation-requires
 implementation-requires c κs = search needs
 
-put-native-expansion-requires : tie.Need-put-native-expansion-requires
-put-native-expansion-requires c κs = search needs
+put-native-unchecked-requires : tie.Need-put-native-unchecked-requires
+put-native-unchecked-requires c κs = search needs
 
 put-byte-unchecked-requires : tie.Need-put-byte-unchecked-requires
 put-byte-unchecked-requires c κs = search needs
@@ -24,7 +24,7 @@ same-length : tie.Need-same-length
 same-length c = search needs
 
 returns : tie.Need-returns
-returns c = (base-put _ _ (c .before .before .before .before .before .before .before .implementation .ensures) (c .before .before .before .before .before .before .before .before .before .before .before .put-native .ensures .0) (c .before .before .before .before .before .before .put-native-expansion .ensures .0) (c .before .before .put-byte-unchecked .ensures), omega (arith, c .before .before .before .before .before .before .before .before .before .before .before .put-native .ensures .1, c .before .before .before .before .before .before .put-native-expansion .ensures .1, c .before .before .put-byte-unchecked .ensures .moves))
+returns c = (base-put _ _ (c .before .before .before .before .before .before .before .implementation .ensures) (c .before .before .before .before .before .before .before .before .before .before .before .put-native .ensures .0) (c .before .before .before .before .before .before .put-native-unchecked .ensures .0) (c .before .before .put-byte-unchecked .ensures), omega (arith, c .before .before .before .before .before .before .before .before .before .before .before .put-native .ensures .1, c .before .before .before .before .before .before .put-native-unchecked .ensures .1, c .before .before .put-byte-unchecked .ensures .moves))
 
 pub put-base-spec : {M : Type 1} → statement M
 put-base-spec =
@@ -33,7 +33,7 @@ put-base-spec =
     slice-aggregate-put-native
     put-native-requires
     implementation-requires
-    put-native-expansion-requires
+    put-native-unchecked-requires
     put-byte-unchecked-requires
     same-length
     returns)

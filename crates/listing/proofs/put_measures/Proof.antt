@@ -1,7 +1,8 @@
 -- `listing::put_measures` meets its contract: the name, the twelve letters and the line's end are put one behind the other. Assumes nothing.
 use native.Mathlib.Omega.{arith}
 use Rattle.text.proofs.Puts.{then}
-use Rattle.listing.proofs.Texts.{printed-bytes, printed-length}
+use Rattle.display.proofs.Texts.{printed-length}
+use Rattle.listing.proofs.Texts.{printed-bytes}
 use borrow.Author.Needs.{needs}
 use Rattle.listing.proofs.put_measures.Statement.{statement}
 use Rattle.listing.proofs.put_measures.Tie as tie
@@ -19,10 +20,10 @@ slice-aggregate-put-bytes-unchecked-2 : tie.Need-slice-aggregate-put-bytes-unche
 slice-aggregate-put-bytes-unchecked-2 c = search needs
 
 put-bytes-unchecked-requires-2 : tie.Need-put-bytes-unchecked-requires-2
-put-bytes-unchecked-requires-2 c κs = omega (arith, c .before .before .before .before .put-bytes-unchecked .ensures .moves, printed-length _ _ (c .before .before .before .before .before .before .before .before .display .ensures) (c .before .before .before .before .before .before .before .before .before .before .pre .0))
+put-bytes-unchecked-requires-2 c κs = omega (arith, c .before .before .before .before .put-bytes-unchecked .ensures .moves, printed-length (c .before .before .before .before .before .before .before .before .before .before .args .measures .0) _ (c .before .before .before .before .before .before .before .before .display .ensures))
 
 put-byte-unchecked-requires : tie.Need-put-byte-unchecked-requires
-put-byte-unchecked-requires c κs = omega (arith, c .before .before .before .before .before .before .before .before .put-bytes-unchecked .ensures .moves, c .before .before .before .put-bytes-unchecked2 .ensures .moves, printed-length _ _ (c .before .before .before .before .before .before .before .before .before .before .before .before .display .ensures) (c .before .before .before .before .before .before .before .before .before .before .before .before .before .before .pre .0))
+put-byte-unchecked-requires c κs = omega (arith, c .before .before .before .before .before .before .before .before .put-bytes-unchecked .ensures .moves, c .before .before .before .put-bytes-unchecked2 .ensures .moves, printed-length (c .before .before .before .before .before .before .before .before .before .before .before .before .before .before .args .measures .0) _ (c .before .before .before .before .before .before .before .before .before .before .before .before .display .ensures))
 
 same-length : tie.Need-same-length
 same-length c = search needs
@@ -31,7 +32,7 @@ returns : tie.Need-returns
 returns c =
     let e = c .before .before .before .before .before .before .before .before .before .before .before .before .before .before .before .display .ensures in
     let h = c .before .before .before .before .before .before .before .before .before .before .before .before .before .before .before .before .before .pre .0 in
-    (rw (printed-bytes _ _ e h) at (then (then (c .before .before .before .before .before .before .before .before .before .before .before .put-bytes-unchecked .ensures) (c .before .before .before .before .before .before .put-bytes-unchecked2 .ensures)) (c .before .before .put-byte-unchecked .ensures)), omega (arith, c .before .before .before .before .before .before .before .before .before .before .before .put-bytes-unchecked .ensures .moves, c .before .before .before .before .before .before .put-bytes-unchecked2 .ensures .moves, c .before .before .put-byte-unchecked .ensures .moves, printed-length _ _ e h))
+    (rw (printed-bytes _ _ e h) at (then (then (c .before .before .before .before .before .before .before .before .before .before .before .put-bytes-unchecked .ensures) (c .before .before .before .before .before .before .put-bytes-unchecked2 .ensures)) (c .before .before .put-byte-unchecked .ensures)), omega (arith, c .before .before .before .before .before .before .before .before .before .before .before .put-bytes-unchecked .ensures .moves, c .before .before .before .before .before .before .put-bytes-unchecked2 .ensures .moves, c .before .before .put-byte-unchecked .ensures .moves, printed-length (c .before .before .before .before .before .before .before .before .before .before .before .before .before .before .before .before .before .args .measures .0) _ e))
 
 pub put-measures-spec : {M : Type 1} → statement M
 put-measures-spec =

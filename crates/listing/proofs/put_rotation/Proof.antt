@@ -24,8 +24,8 @@ put-native-requires c κs = search needs
 rotation-by-unchecked-requires : tie.Need-rotation-by-unchecked-requires
 rotation-by-unchecked-requires c κs = search needs
 
-put-rotation-expansion-requires : tie.Need-put-rotation-expansion-requires
-put-rotation-expansion-requires c κs = search needs
+put-rotation-unchecked-requires : tie.Need-put-rotation-unchecked-requires
+put-rotation-unchecked-requires c κs = search needs
 
 put-byte-unchecked-requires : tie.Need-put-byte-unchecked-requires
 put-byte-unchecked-requires c κs = search needs
@@ -34,7 +34,7 @@ same-length : tie.Need-same-length
 same-length c = search needs
 
 returns : tie.Need-returns
-returns c = (rotation-put _ (at (c .before .before .before .before .before .before .before .before .before .before .before .before .before .before .before .before .before .before .args .strings .now)) _ (c .before .before .before .before .before .before .before .rotation-by-unchecked .ensures) (c .before .before .before .before .before .before .before .before .before .before .before .put-native .ensures .0) (c .before .before .before .before .before .before .put-rotation-expansion .ensures .0) (c .before .before .put-byte-unchecked .ensures), omega (arith, c .before .before .before .before .before .before .before .before .before .before .before .put-native .ensures .1, c .before .before .before .before .before .before .put-rotation-expansion .ensures .1, c .before .before .put-byte-unchecked .ensures .moves))
+returns c = (rotation-put _ (at (c .before .before .before .before .before .before .before .before .before .before .before .before .before .before .before .before .before .before .args .strings .now)) _ (c .before .before .before .before .before .before .before .rotation-by-unchecked .ensures) (c .before .before .before .before .before .before .before .before .before .before .before .put-native .ensures .0) (c .before .before .before .before .before .before .put-rotation-unchecked .ensures .0) (c .before .before .put-byte-unchecked .ensures), omega (arith, c .before .before .before .before .before .before .before .before .before .before .before .put-native .ensures .1, c .before .before .before .before .before .before .put-rotation-unchecked .ensures .1, c .before .before .put-byte-unchecked .ensures .moves))
 
 pub put-rotation-spec : {M : Type 1} → statement M
 put-rotation-spec =
@@ -46,7 +46,7 @@ put-rotation-spec =
     slice-aggregate-put-native
     put-native-requires
     rotation-by-unchecked-requires
-    put-rotation-expansion-requires
+    put-rotation-unchecked-requires
     put-byte-unchecked-requires
     same-length
     returns)

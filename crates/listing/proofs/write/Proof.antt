@@ -1,6 +1,6 @@
 -- `listing::write` meets its contract: an empty buffer tells the length, and then there is room for all of the text or nothing is written. Assumes nothing.
 use Rattle.listing.specs.Answers.{answerText}
-use Rattle.listing.proofs.Answers.{written-short, written-whole}
+use Rattle.text.proofs.Fronts.{written-short, written-whole}
 use borrow.Author.Needs.{needs}
 use Rattle.listing.proofs.write.Statement.{statement}
 use Rattle.listing.proofs.write.Tie as tie

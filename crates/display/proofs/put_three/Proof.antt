@@ -1,10 +1,10 @@
--- `listing::put_three` meets its contract: each instruction but the first has a space before it. Assumes nothing.
+-- `display::put_three` meets its contract: each instruction but the first has a space before it. Assumes nothing.
 use native.Mathlib.Omega.{arith}
 use Rattle.text.proofs.Puts.{then}
-use Rattle.listing.proofs.Texts.{three}
+use Rattle.display.proofs.Texts.{three}
 use borrow.Author.Needs.{needs}
-use Rattle.listing.proofs.put_three.Statement.{statement}
-use Rattle.listing.proofs.put_three.Tie as tie
+use Rattle.display.proofs.put_three.Statement.{statement}
+use Rattle.display.proofs.put_three.Tie as tie
 
 put-instruction-requires : tie.Need-put-instruction-requires
 put-instruction-requires c κs = search needs

@@ -1,9 +1,9 @@
--- `listing::put_next` meets its contract: the space stands before the instruction. Assumes nothing.
+-- `display::put_next` meets its contract: the space stands before the instruction. Assumes nothing.
 use native.Mathlib.Omega.{arith}
 use Rattle.text.proofs.Puts.{then}
 use borrow.Author.Needs.{needs}
-use Rattle.listing.proofs.put_next.Statement.{statement}
-use Rattle.listing.proofs.put_next.Tie as tie
+use Rattle.display.proofs.put_next.Statement.{statement}
+use Rattle.display.proofs.put_next.Tie as tie
 
 put-byte-unchecked-requires : tie.Need-put-byte-unchecked-requires
 put-byte-unchecked-requires c κs = search needs

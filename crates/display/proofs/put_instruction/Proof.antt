@@ -1,9 +1,9 @@
--- `listing::put_instruction` meets its contract: the front of the nine bytes is the instruction's text. Assumes nothing.
+-- `display::put_instruction` meets its contract: the front of the nine bytes is the instruction's text. Assumes nothing.
 use native.Mathlib.Omega.{arith}
 use borrow.Author.Needs.{needs}
-use Rattle.listing.proofs.Texts.{shown-inside, shown-front, shown-short}
-use Rattle.listing.proofs.put_instruction.Statement.{statement}
-use Rattle.listing.proofs.put_instruction.Tie as tie
+use Rattle.display.proofs.Texts.{shown-inside, shown-front, shown-short}
+use Rattle.display.proofs.put_instruction.Statement.{statement}
+use Rattle.display.proofs.put_instruction.Tie as tie
 
 display-requires : tie.Need-display-requires
 display-requires c κs = search needs

@@ -1,9 +1,9 @@
--- `listing::put_native_expansion` meets its contract: three instructions, or none of a refusal. Assumes nothing.
+-- `display::put_native_unchecked` meets its contract: three instructions, or none of a refusal. Assumes nothing.
 use native.Mathlib.Omega.{arith}
-use Rattle.listing.proofs.Texts.{none}
+use Rattle.display.proofs.Texts.{none}
 use borrow.Author.Needs.{needs}
-use Rattle.listing.proofs.put_native_expansion.Statement.{statement}
-use Rattle.listing.proofs.put_native_expansion.Tie as tie
+use Rattle.display.proofs.put_native_unchecked.Statement.{statement}
+use Rattle.display.proofs.put_native_unchecked.Tie as tie
 
 enum-known-expansion : tie.Need-enum-known-expansion
 enum-known-expansion c = search needs
@@ -23,7 +23,7 @@ returns c = rw (c .before .before .before .before .before .expansion .given .1) 
 returns-2 : tie.Need-returns-2
 returns-2 c = rw (c .enum-told .given .1) (none _ _, omega arith)
 
-pub put-native-expansion-spec : {M : Type 1} → statement M
-put-native-expansion-spec =
+pub put-native-unchecked-spec : {M : Type 1} → statement M
+put-native-unchecked-spec =
     tie.close
     (tie.spec enum-known-expansion put-three-requires enum-told same-length returns returns-2)

@@ -1,0 +1,2 @@
+-- Laws of `display`.
+pub mod Texts

@@ -1,0 +1,2 @@
+-- What the contracts of `display` cite.
+pub mod Texts
