@@ -1,4 +1,4 @@
-// Runs both sides of each edge that document 01 names and that needs no whole table; tests/tables runs the others. A line
+// Runs both sides of each edge that document 01 names and that needs no whole table; host/tests/tables.rs runs the others. A line
 // for each case, or a listing, to be held to `stdout`, which was written from document 01.
 use bicycle_common::LetterAnswer;
 use bicycle_common::Outcome;
