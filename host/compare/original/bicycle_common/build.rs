@@ -1,0 +1,3 @@
+fn main() {
+    source::offer("bicycle_common");
+}
