@@ -26,7 +26,7 @@ fn main() -> ExitCode {
             _ => match TOPICS.iter().find(|topic| topic.name == word) {
                 Some(topic) => named.push(topic),
                 None => {
-                    eprintln!("compare: there is no topic {word}; see compare --help");
+                    eprintln!("compare: {word} is none of its words; see compare --help");
                     return ExitCode::from(2);
                 }
             },
@@ -38,15 +38,15 @@ fn main() -> ExitCode {
             .filter(|topic| topic.quick || extent == Extent::Whole)
             .collect();
     }
-    let agreed = named
-        .into_iter()
-        .filter(|topic| !run(topic, extent))
-        .count()
-        == 0;
-    if agreed {
-        ExitCode::SUCCESS
-    } else {
-        ExitCode::FAILURE
+    let start = Instant::now();
+    let counts: Vec<Option<u64>> = named.iter().map(|topic| run(topic, extent)).collect();
+    let seconds = start.elapsed().as_secs();
+    match counts.iter().copied().sum::<Option<u64>>() {
+        Some(all) => {
+            println!("in all {all} comparisons, nothing differed ({seconds} s)");
+            ExitCode::SUCCESS
+        }
+        None => ExitCode::FAILURE,
     }
 }
 
@@ -68,19 +68,19 @@ fn write_vectors() -> ExitCode {
     ExitCode::SUCCESS
 }
 
-/// Prints a topic's line, and answers whether nothing differed.
-fn run(topic: &Topic, extent: Extent) -> bool {
-    let start = Instant::now();
+/// Prints a topic's line, and answers how many comparisons it made if nothing differed.
+fn run(topic: &Topic, extent: Extent) -> Option<u64> {
+    let (name, start) = (topic.name, Instant::now());
     let mut tally = Tally::default();
-    let answer = (topic.run)(extent, &mut tally);
-    let seconds = start.elapsed().as_secs();
-    let compared = tally.compared;
-    match &answer {
+    match (topic.run)(extent, &mut tally) {
         Ok(summary) => {
-            let name = topic.name;
-            println!("{name}: {summary}; {compared} comparisons, nothing differed ({seconds} s)")
+            let (compared, seconds) = (tally.compared, start.elapsed().as_secs());
+            println!("{name}: {summary}; {compared} comparisons, nothing differed ({seconds} s)");
+            Some(compared)
         }
-        Err(difference) => println!("{}: DIFFERS: {difference}", topic.name),
+        Err(difference) => {
+            println!("{name}: DIFFERS: {difference}");
+            None
+        }
     }
-    answer.is_ok()
 }

@@ -37,10 +37,11 @@ fn main() {
     let mut text = source::read("bicycle_cliffords", "decomposition.rs");
     for (old, new) in REPLACED {
         let found = text.matches(old).count();
-        assert!(
-            found == 1,
-            "the sorted copy cannot be made: decomposition.rs has {old:?} {found} times, not once"
-        );
+        if found != 1 {
+            source::fail(&format!(
+                "the sorted copy cannot be made: decomposition.rs has {old:?} {found} times, not once"
+            ));
+        }
         text = text.replace(old, new);
     }
     let out = std::env::var("OUT_DIR").expect("cargo names the folder");

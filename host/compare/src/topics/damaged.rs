@@ -37,7 +37,7 @@ const SMALL: [(&str, &str); 3] = [
 ];
 
 pub fn run(extent: Extent, tally: &mut Tally) -> Result<Summary, Difference> {
-    let (small, large) = extent.of((104, 4), (1_014, 26));
+    let (small, large) = extent.of((112, 2), (1_008, 20));
     let digits = |d: &(&str, &str)| Pair::from_digits(d.0.as_bytes(), d.1.as_bytes()).unwrap();
     let named = [pairs::IDENTITY_PAIR, pairs::ZERO_PAIR, pairs::PLAN_PAIR];
     let pairs = named.into_iter().chain(SMALL.iter().map(digits));
@@ -154,12 +154,18 @@ fn any(rng: &mut Rng) -> u32 {
 /// A way to damage a table. It answers strings that are worth looking up.
 type Damage = fn(&Case, &mut [u8], &mut Rng) -> Vec<u32>;
 
-const KINDS: [(&str, Damage); 26] = [
+const KINDS: [(&str, Damage); 28] = [
     ("a longer way down", |case, t, rng| {
-        way_down(case, t, rng, true)
+        way_down(case, t, rng, true, true)
     }),
-    ("a way down by no rotation", |case, t, rng| {
-        way_down(case, t, rng, false)
+    ("a way as long by no rotation", |case, t, rng| {
+        way_down(case, t, rng, false, false)
+    }),
+    ("a way as long", |case, t, rng| {
+        way_down(case, t, rng, false, true)
+    }),
+    ("a longer way by no rotation", |case, t, rng| {
+        way_down(case, t, rng, true, false)
     }),
     ("a native that is not kept", not_kept),
     ("a chain of rotations", chain),
@@ -260,15 +266,22 @@ fn swap(case: &Case, table: &mut [u8], rng: &mut Rng, part: fn(u32) -> u32) -> V
     vec![p, q]
 }
 
-/// A way down by one more than there is, by a native that is a rotation or by one that is none.
-fn way_down(case: &Case, table: &mut [u8], rng: &mut Rng, by_rotation: bool) -> Vec<u32> {
+/// Another way down, as long as the shortest or longer, by a native that is a rotation or by one that is none.
+fn way_down(
+    case: &Case,
+    table: &mut [u8],
+    rng: &mut Rng,
+    is_longer: bool,
+    by_rotation: bool,
+) -> Vec<u32> {
     for _ in 0..10_000 {
         let (p, n) = (case.some(rng), rng.index(NATIVES) as u16);
         let q = case.code.leads(p, n);
         let (value, next) = (entry(table, p), entry(table, q));
-        let fits = q != p && next != 0 && depth(next) >= depth(value);
-        if fits && p != 0 && case.code.rotations.contains(&n) == by_rotation {
-            put(table, p, 1024 * (depth(next) + 1) + u32::from(n) + 1);
+        let (old, new) = (depth(value), depth(next) + 1);
+        let fits = if is_longer { new > old } else { new == old };
+        if p != q && next != 0 && fits && case.code.rotations.contains(&n) == by_rotation {
+            put(table, p, 1024 * new + u32::from(n) + 1);
             return vec![p];
         }
     }

@@ -1,6 +1,7 @@
 //! Where the original's files are, for the build scripts of the packages beside this one.
 
 use std::path::PathBuf;
+use std::process::exit;
 
 /// Beside the repository, unless the environment names another folder.
 const DEFAULT: &str = concat!(
@@ -12,13 +13,17 @@ fn folder() -> PathBuf {
     println!("cargo::rerun-if-env-changed=BICYCLE_ORIGINAL");
     let named = std::env::var_os("BICYCLE_ORIGINAL");
     let folder = named.map_or_else(|| PathBuf::from(DEFAULT), PathBuf::from);
-    match folder.canonicalize() {
-        Ok(folder) => folder,
-        Err(e) => panic!(
-            "BICYCLE_ORIGINAL: there is no folder {}: {e}",
+    let missing = |e| {
+        fail(&format!(
+            "there is no folder {} of the original: {e}",
             folder.display()
-        ),
-    }
+        ))
+    };
+    folder.canonicalize().unwrap_or_else(missing)
+}
+
+fn sources(name: &str) -> PathBuf {
+    folder().join("crates").join(name).join("src")
 }
 
 /// Lets the package that is built include the files of one crate of the original by
@@ -31,12 +36,12 @@ pub fn offer(name: &str) {
 pub fn read(name: &str, file: &str) -> String {
     let path = sources(name).join(file);
     println!("cargo::rerun-if-changed={}", path.display());
-    match std::fs::read_to_string(&path) {
-        Ok(text) => text,
-        Err(e) => panic!("BICYCLE_ORIGINAL: cannot read {}: {e}", path.display()),
-    }
+    let missing = |e| fail(&format!("cannot read {}: {e}", path.display()));
+    std::fs::read_to_string(&path).unwrap_or_else(missing)
 }
 
-fn sources(name: &str) -> PathBuf {
-    folder().join("crates").join(name).join("src")
+/// Ends the build with a sentence.
+pub fn fail(sentence: &str) -> ! {
+    println!("cargo::error={sentence}");
+    exit(1)
 }
