@@ -6,6 +6,7 @@ use Prim.Native.Nat.{ℕ}
 use lib.Dec.{ltb}
 use lib.ListN.{length}
 use Rattle.bicycle_common.specs.declared.Pauli.{Pauli}
+use Rattle.bicycle_common.specs.declared.Pauli.the-variants.{I, X, Z, Y}
 use Rattle.bicycle_common.specs.declared.Anticommuting.{Anticommuting}
 use Rattle.bicycle_common.specs.declared.Anticommuting.the-variants.{Letters, Identity}
 use Rattle.bicycle_common.specs.declared.LetterAnswer.{LetterAnswer}
@@ -193,6 +194,14 @@ ofLetter l = capitals (capital l) (anticommutingLetters l)
 abbrev pub flatLetter : LetterAnswer → LetterResult
 flatLetter (LetterIs l) = ofLetter l
 flatLetter (NoLetter r) = letterRefusal (numberOf r)
+
+-- the struct says the enum's number; its values are capitals, where the enum tells the letter's place
+pub letter-says : (a : LetterAnswer) → flatLetter a .number ≡ toldLetter a .number
+letter-says (LetterIs I) = refl
+letter-says (LetterIs X) = refl
+letter-says (LetterIs Z) = refl
+letter-says (LetterIs Y) = refl
+letter-says (NoLetter r) = refl
 
 -- ---- automorphisms
 

@@ -15,7 +15,6 @@ use native_measurement::ImplementationAnswer;
 use native_measurement::NativeNumber;
 use pauli_string::PauliString;
 use text::WriteAnswer;
-ghost use mathlib.Core.Path.{_≡_};
 ghost use mathlib.Core.List.{[], _∷_};
 ghost use Prim.Native.Nat.{_+_, _<_, _≤_, _^_};
 ghost use lib.ListN.{length};

@@ -5,7 +5,6 @@ use Prim.Native.Nat.{ℕ, zero, suc, _-_, _*_}
 use Prim.Native.Char.{code}
 use lib.Dec.{eqb, ltb}
 use lib.ListN.{length, drop}
-use Rattle.bicycle_common.specs.declared.Refusal.{Refusal}
 use Rattle.bicycle_common.specs.declared.Refusal.the-variants.{Matrix, Identity, PivotIdentity, NativeRange, PlanInput}
 use Rattle.bicycle_common.specs.Bytes.{bytesOf}
 use Rattle.text.specs.Reads.{Read, good, bad, on}
