@@ -1,4 +1,5 @@
-//! A table of any bytes through the check and both lookups, held against the model; and texts in lent buffers.
+//! A table of any bytes through the check and both lookups, held against the model; and texts in
+//! lent buffers.
 
 use bicycle::Pair;
 use bicycle::ffi::{self, TextResult};
@@ -75,7 +76,8 @@ impl Held<'_> {
     }
 }
 
-/// A call that writes text: its answer, and every byte of buffers of several lengths that held others before.
+/// A call that writes text: its answer, and every byte of buffers of several lengths that held
+/// others before.
 pub fn text(
     call: impl Fn(&mut [u8]) -> TextResult,
     due: Result<&str, u32>,

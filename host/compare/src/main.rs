@@ -10,9 +10,9 @@ const HELP: &str = "\
 compare [--quick] [TOPIC ..]
 compare --write-vectors
 
-Compares the library with the original, and with document 01 where the original has no such call. Without --quick
-everything is compared, which takes a quarter of an hour and more. --write-vectors makes the stored answers of
-crates/vectors anew, by the original. The topics, in order:";
+Compares the library with the original, and with document 01 where the original has no such call.
+Without --quick everything is compared, which takes a quarter of an hour and more. --write-vectors
+makes the stored answers of crates/vectors anew, by the original. The topics, in order:";
 
 fn main() -> ExitCode {
     let mut extent = Extent::Whole;

@@ -1,5 +1,5 @@
-//! Document 01's sentences on natives, tables and lookups written out once more, as plainly as can be and apart from the
-//! library. Nothing here is taken from the crates or from the original.
+//! Document 01's sentences on natives, tables and lookups written out once more, as plainly as can
+//! be and apart from the library. Nothing here is taken from the crates or from the original.
 
 use bicycle::Pair;
 use bicycle::pair::Matrix;
@@ -28,7 +28,8 @@ pub fn commute_by_qubit(p: u32, q: u32) -> bool {
     (0..12).filter(differ).count() % 2 == 0
 }
 
-/// The same for all qubits at once: there the X digit of one meets the Z digit of the other once, not twice.
+/// The same for all qubits at once: there the X digit of one meets the Z digit of the other once,
+/// not twice.
 pub fn commute(p: u32, q: u32) -> bool {
     let (px, pz, qx, qz) = (p & 0xfff, p >> 12, q & 0xfff, q >> 12);
     (px & qz ^ pz & qx).count_ones().is_multiple_of(2)
@@ -80,8 +81,9 @@ pub fn taken_apart(n: usize) -> (usize, usize, usize, usize) {
     (shift / 6, shift % 6, k / 4, k % 4)
 }
 
-/// The string that native n measures: its X letters place the first column of A of the inverse automorphism, its Z
-/// letters the first row of A(x,y); letter 1 on qubits 0 to 5, letter 7 on 6 to 11.
+/// The string that native n measures: its X letters place the first column of A of the inverse
+/// automorphism, its Z letters the first row of A(x,y); letter 1 on qubits 0 to 5, letter 7 on 6 to
+/// 11.
 pub fn measures(pair: &Pair, n: usize) -> u32 {
     let (x, y, letter_1, letter_7) = taken_apart(n);
     let inverse = action(pair, (6 - x) % 6, (6 - y) % 6);
@@ -190,7 +192,7 @@ pub struct Refusal {
     pub needed: usize,
 }
 
-fn refuse<T>(number: u32) -> Result<T, Refusal> {
+pub fn refuse<T>(number: u32) -> Result<T, Refusal> {
     Err(Refusal { number, needed: 0 })
 }
 

@@ -1,4 +1,5 @@
-//! Document 01's "Plan listing" written out once more: the reader of plans on paper, and all that `plan` prints.
+//! Document 01's "Plan listing" written out once more: the reader of plans on paper, and all that
+//! `plan` prints.
 
 use bicycle::Pair;
 use bicycle::pair::Matrix;

@@ -61,7 +61,8 @@ impl Tally {
         self.same(&ours[four.clone()], &theirs[four], what)
     }
 
-    /// Runs a comparison over the parts of a range at once, one part for each core. The lowest part's difference is told.
+    /// Runs a comparison over the parts of a range at once, one part for each core. The lowest
+    /// part's difference is told.
     pub fn share<F>(&mut self, range: Range<u32>, compare: F) -> Outcome
     where
         F: Fn(Range<u32>, &mut Tally) -> Outcome + Sync,
@@ -86,8 +87,11 @@ impl Tally {
     }
 }
 
+/// Four at most: a part may need a gigabyte.
 fn cores() -> usize {
-    thread::available_parallelism().map_or(1, usize::from)
+    thread::available_parallelism()
+        .map_or(1, usize::from)
+        .min(4)
 }
 
 /// Does two things at once.

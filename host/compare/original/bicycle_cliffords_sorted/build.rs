@@ -1,5 +1,5 @@
-//! Makes the sorted copy of decomposition.rs: the original's text, with its map walks put in order and each discovery
-//! noted. A text to be replaced that is not there exactly once stops the build.
+//! Makes the sorted copy of decomposition.rs: the original's text, with its map walks put in order
+//! and each discovery noted. A text to be replaced that is not there exactly once stops the build.
 
 use std::path::Path;
 
@@ -12,11 +12,13 @@ const REPLACED: [(&str, &str); 6] = [
     // the other walks go by kept native number
     (
         "self.native_measurements\n            .keys()",
-        "crate::order::by_kept_number(self.native_measurements.keys(), &self.native_measurements)\n            .into_iter()",
+        "crate::order::by_kept_number(self.native_measurements.keys(), &self.native_measurements)\
+         .into_iter()",
     ),
     (
         "let mut cur = 1;",
-        "let base_rots = crate::order::by_kept_number(base_rots, &self.native_measurements);\n        let mut cur = 1;",
+        "let base_rots = crate::order::by_kept_number(base_rots, &self.native_measurements);\
+         let mut cur = 1;",
     ),
     // each string is noted when it is discovered
     (
@@ -39,7 +41,7 @@ fn main() {
         let found = text.matches(old).count();
         if found != 1 {
             source::fail(&format!(
-                "the sorted copy cannot be made: decomposition.rs has {old:?} {found} times, not once"
+                "no sorted copy can be made: decomposition.rs has {old:?} {found} times, not once"
             ));
         }
         text = text.replace(old, new);

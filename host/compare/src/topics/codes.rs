@@ -1,7 +1,7 @@
-//! Gross and two-gross: whole tables, queues, costs, and every plan, with the sorted copy and with the original as it is.
+//! Gross and two-gross: whole tables, queues, costs, and every plan, with the sorted copy and with
+//! the original as it is.
 
-use bicycle::ffi::{self, CheckResult};
-use bicycle::{Code, NATIVES, Pair};
+use bicycle::{Code, NATIVES, Pair, ffi};
 use bicycle_cliffords::measurement::MeasurementChoices;
 use bicycle_cliffords::pauli_string::PauliString;
 use bicycle_cliffords::plain::{self, Builder, Table};
@@ -41,27 +41,30 @@ fn run(code: Code, choice: MeasurementChoices, tally: &mut Tally) -> Result<Summ
     let theirs = original::written(&unpatched)?;
     any_order(&pair, &ours, &theirs, tally)?;
 
-    let strings: Vec<u32> = (0..NATIVES)
-        .map(|n| ffi::measures(&pair.mx, &pair.my, n).value)
-        .collect();
+    let measures = |n| ffi::measures(&pair.mx, &pair.my, n).value;
+    let strings: Vec<u32> = (0..NATIVES).map(measures).collect();
     let sorted = Looked::new(&pair, &strings, &ours.table, complete(sorted)?);
     let unsorted = Looked::new(&pair, &strings, &theirs, complete(unpatched)?);
-    tally.share(0..STRINGS, |range, tally| {
-        range
-            .into_iter()
-            .try_for_each(|p| exact(p, &sorted, &unsorted, tally))
-    })?;
-    tally.share(0..BLANK, |range, tally| {
-        range
-            .into_iter()
-            .try_for_each(|bits| pivot_free(bits, &sorted, &unsorted, tally))
-    })?;
+    plans(&sorted, &unsorted, tally)?;
     let ffi::BuildResult { entries, depth, .. } = ours.told;
     Ok(format!(
         "{entries} entries, greatest depth {depth}; table, queue, costs, {} exact and {BLANK} \
          pivot-free plans; and the same of a table with the original's maps in their own order",
         STRINGS - 1
     ))
+}
+
+fn plans<A, B>(sorted: &Looked<A>, unsorted: &Looked<B>, tally: &mut Tally) -> Outcome
+where
+    A: Table + Sync,
+    B: Table + Sync,
+{
+    tally.share(0..STRINGS, |mut range, tally| {
+        range.try_for_each(|p| exact(p, sorted, unsorted, tally))
+    })?;
+    tally.share(0..BLANK, |mut range, tally| {
+        range.try_for_each(|bits| pivot_free(bits, sorted, unsorted, tally))
+    })
 }
 
 fn complete<B: Builder>(builder: B) -> Result<B::Table, Difference> {
@@ -72,15 +75,13 @@ fn complete<B: Builder>(builder: B) -> Result<B::Table, Difference> {
     })
 }
 
-/// A table with the original's maps in their own order is accepted, and has our depth at every string.
+/// A table with the original's maps in their own order is accepted, and has our depth at every
+/// string.
 fn any_order(pair: &Pair, ours: &Lent, theirs: &[u8], tally: &mut Tally) -> Outcome {
-    let accepted = CheckResult {
-        number: 0,
-        accepted: 1,
-        index: 0,
-    };
     let told = ffi::check(theirs, &pair.mx, &pair.my);
-    tally.same(told, accepted, || "check of the original's table".into())?;
+    tally.same(told, flat::check(None), || {
+        "check of the original's table".into()
+    })?;
     for p in 0..STRINGS {
         let depths = (depth(entry(&ours.table, p)), depth(entry(theirs, p)));
         tally.same(depths.0, depths.1, || format!("depth of string {p}"))?;
@@ -151,7 +152,8 @@ impl<'a, T> Looked<'a, T> {
         }
     }
 
-    /// One lookup with theirs: the answer, the buffer, and the string of each rotation. Answers how many these are.
+    /// One lookup with theirs: the answer, the buffer, and the string of each rotation. Answers how
+    /// many these are.
     fn same(
         &self,
         p: u32,

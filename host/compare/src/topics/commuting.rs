@@ -1,4 +1,5 @@
-//! Commutation and conjugation of pseudo-random pairs of strings, with the original and by the textbook's rule.
+//! Commutation and conjugation of pseudo-random pairs of strings, with the original and by the
+//! textbook's rule.
 
 use bicycle::ffi;
 use bicycle_cliffords::pauli_string::PauliString;
@@ -10,10 +11,10 @@ use crate::report::{Difference, Outcome, Tally};
 use crate::rng::Rng;
 
 pub fn run(extent: Extent, tally: &mut Tally) -> Result<Summary, Difference> {
-    let pairs = extent.of(1_000_000, 12_000_000);
-    tally.share(0..pairs, |range, tally| {
+    let pairs = extent.of(2_000_000, 100_000_000);
+    tally.share(0..pairs, |mut range, tally| {
         let mut rng = Rng::new(6 << 32 | u64::from(range.start));
-        range.into_iter().try_for_each(|_| {
+        range.try_for_each(|_| {
             let p = string(&mut rng);
             // now and then the two have most letters in common
             let q = if rng.one_in(4) {

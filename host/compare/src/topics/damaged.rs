@@ -1,4 +1,5 @@
-//! Tables with damages of many kinds: the check, both lookups and the bytes they write, held against the model.
+//! Tables with damages of many kinds: the check, both lookups and the bytes they write, held
+//! against the model.
 
 use bicycle::{Code, Pair};
 
@@ -20,7 +21,8 @@ struct Case {
     found: Vec<u32>,
 }
 
-/// Few rotations and few entries, so that a check takes well under a second: 16, 16, 54, 691, 1,765 and 458,734 entries.
+/// Few rotations and few entries, so that a check takes well under a second: 16, 16, 54, 691, 1,765
+/// and 458,734 entries.
 const SMALL: [(&str, &str); 3] = [
     (
         "110000110010101100000110000010000001",
@@ -266,7 +268,8 @@ fn swap(case: &Case, table: &mut [u8], rng: &mut Rng, part: fn(u32) -> u32) -> V
     vec![p, q]
 }
 
-/// Another way down, as long as the shortest or longer, by a native that is a rotation or by one that is none.
+/// Another way down, as long as the shortest or longer, by a native that is a rotation or by one
+/// that is none.
 fn way_down(
     case: &Case,
     table: &mut [u8],
@@ -315,7 +318,8 @@ fn chain(case: &Case, table: &mut [u8], rng: &mut Rng) -> Vec<u32> {
     met
 }
 
-/// Identity and natives as they were; any other string has an entry of a small depth that names a rotation.
+/// Identity and natives as they were; any other string has an entry of a small depth that names a
+/// rotation.
 fn likely(case: &Case, table: &mut [u8], rng: &mut Rng) -> Vec<u32> {
     for p in 1..STRINGS {
         if case.code.kept(p).is_none() {

@@ -1,5 +1,5 @@
-//! Pairs whose tables are incomplete: tables and queues with the sorted copy; lookups, which the original does not have
-//! there, with the model.
+//! Pairs whose tables are incomplete: tables and queues with the sorted copy; lookups, which the
+//! original does not have there, with the model.
 
 use bicycle::ffi;
 use bicycle_cliffords::plain::Builder;
@@ -14,8 +14,8 @@ use crate::pairs::{named, random_pair};
 use crate::report::{Difference, Outcome, Tally};
 use crate::rng::Rng;
 
-/// Seeds of pairs with incomplete tables, from 16 to 7,340,020 entries. The quick part takes the first three; each half has
-/// about the same work.
+/// Seeds of pairs with incomplete tables, from 16 to 7,340,020 entries. The quick part takes the
+/// first three; each half has about the same work.
 const SEEDS: [u64; 24] = [
     103, 107, 136, 108, 106, 151, 148, 101, 118, 127, 126, 139, //
     156, 121, 115, 143, 142, 111, 163, 144, 132, 110, 124, 150,
@@ -23,10 +23,8 @@ const SEEDS: [u64; 24] = [
 
 pub fn run(extent: Extent, tally: &mut Tally) -> Result<Summary, Difference> {
     let seeds = &SEEDS[..extent.of(3, SEEDS.len())];
-    tally.share(0..seeds.len() as u32, |range, tally| {
-        range
-            .into_iter()
-            .try_for_each(|i| compare(seeds[i as usize], tally))
+    tally.share(0..seeds.len() as u32, |mut range, tally| {
+        range.try_for_each(|i| compare(seeds[i as usize], tally))
     })?;
     Ok(format!(
         "tables, queues, costs and lookups of {} pairs",

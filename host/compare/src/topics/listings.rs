@@ -1,4 +1,5 @@
-//! Plans on paper: pseudo-random inputs, good ones and spoiled ones, held against the model of document 01's text.
+//! Plans on paper: pseudo-random inputs, good ones and spoiled ones, held against the model of
+//! document 01's text.
 
 use std::collections::BTreeMap;
 use std::sync::Mutex;

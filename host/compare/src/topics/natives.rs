@@ -7,7 +7,7 @@ use bicycle_cliffords::native_measurement::NativeMeasurement;
 use bicycle_cliffords::plain::Builder;
 
 use super::{Extent, Summary};
-use crate::model::{Plan, Refusal, TABLE_LENGTH, put};
+use crate::model::{Plan, TABLE_LENGTH, put, refuse};
 use crate::original::{self, Unpatched};
 use crate::pairs::{self, named, random_pair};
 use crate::report::{Difference, Outcome, Tally};
@@ -26,11 +26,9 @@ pub fn run(extent: Extent, tally: &mut Tally) -> Result<Summary, Difference> {
         .collect();
     let mut rng = Rng::new(3);
     pairs.extend((0..random).map(|_| random_pair(&mut rng)));
-    tally.share(0..pairs.len() as u32, |range, tally| {
+    tally.share(0..pairs.len() as u32, |mut range, tally| {
         let mut natives = Natives::new();
-        range
-            .into_iter()
-            .try_for_each(|i| natives.of_pair(&pairs[i as usize], tally))
+        range.try_for_each(|i| natives.of_pair(&pairs[i as usize], tally))
     })?;
     Ok(format!(
         "strings, kept numbers and expansions of 540 natives for {} pairs",
@@ -112,20 +110,14 @@ impl Natives {
 /// Such an entry is valid exactly when n is kept. The identity is never looked up.
 fn due(p: u32, n: u16, is_kept: bool) -> ffi::LookupResult {
     let answer = match (p, is_kept) {
-        (0, _) => Err(Refusal {
-            number: 5,
-            needed: 0,
-        }),
+        (0, _) => refuse(5),
         (_, true) => Ok(Plan {
             measures: p,
             native: n,
             base: p,
             rotations: vec![],
         }),
-        (_, false) => Err(Refusal {
-            number: 8,
-            needed: 0,
-        }),
+        (_, false) => refuse(8),
     };
     flat::lookup(answer, &mut [])
 }

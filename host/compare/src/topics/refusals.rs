@@ -4,7 +4,7 @@ use bicycle::ffi::{self, BuildResult, CheckResult};
 use bicycle::pair::Matrix;
 
 use super::{Extent, Summary};
-use crate::model::{self, NATIVES, Refusal, STRINGS, TABLE_LENGTH, put};
+use crate::model::{self, NATIVES, STRINGS, TABLE_LENGTH, put, refuse};
 use crate::pairs;
 use crate::paper::{Natives, Sentences};
 use crate::report::{Difference, Outcome, Tally};
@@ -115,7 +115,7 @@ fn refused(table: &[u8], mx: &[u8], my: &[u8], number: u32, tally: &mut Tally) -
         for call in [ffi::implementation, ffi::min_data] {
             let mut out = [0xa5; 4];
             let told = call(table, mx, my, p, &mut out);
-            let due = flat::lookup(Err(Refusal { number, needed: 0 }), &mut []);
+            let due = flat::lookup(refuse(number), &mut []);
             tally.same((told, out), (due, [0xa5; 4]), || {
                 format!("lookup of {p}, {}", name())
             })?;

@@ -1,5 +1,6 @@
-//! The stored answers of crates/vectors: made anew from its inputs, by the original and by document 01 where the original
-//! has no such call, and compared with the stored ones byte for byte. The library has no part in this.
+//! The stored answers of crates/vectors: made anew from its inputs, by the original and by document
+//! 01 where the original has no such call, and compared with the stored ones byte for byte. The
+//! library has no part in this.
 
 use std::fs;
 use std::path::PathBuf;
@@ -90,7 +91,8 @@ fn made() -> Vec<u8> {
     made.into_bytes()
 }
 
-/// Each case is a line that begins with its length, so many bytes, and byte 10. The line stands before the answer.
+/// Each case is a line that begins with its length, so many bytes, and byte 10. The line stands
+/// before the answer.
 fn cases(mut data: &[u8], answer: impl Fn(&[u8]) -> String) -> String {
     let mut made = String::new();
     while let Some(end) = data.iter().position(|&b| b == 10) {

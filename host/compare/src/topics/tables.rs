@@ -1,7 +1,7 @@
-//! A table of ours held against one of the sorted copy: every byte of table and queue, and what is told of them.
+//! A table of ours held against one of the sorted copy: every byte of table and queue, and what is
+//! told of them.
 
-use bicycle::Pair;
-use bicycle::ffi::{self, CheckResult};
+use bicycle::{Pair, ffi};
 use bicycle_cliffords::plain::Builder;
 
 use crate::flat;
@@ -36,13 +36,8 @@ pub fn same(pair: &Pair, ours: &Lent, sorted: &Sorted, tally: &mut Tally) -> Out
     tally.same(ffi::is_empty(&ours.table), empty, || {
         format!("is_empty of {name}")
     })?;
-    let accepted = CheckResult {
-        number: 0,
-        accepted: 1,
-        index: 0,
-    };
     let told = ffi::check(&ours.table, &pair.mx, &pair.my);
-    tally.same(told, accepted, || format!("check of {name}"))
+    tally.same(told, flat::check(None), || format!("check of {name}"))
 }
 
 /// All discovered nonzero strings in order, then zeros.

@@ -1,5 +1,5 @@
-// Included behind the text of decomposition.rs, the original's or the sorted copy's: a child module sees what its parent
-// keeps private, and tells it in plain numbers.
+// Included behind the text of decomposition.rs, the original's or the sorted copy's: a child module
+// sees what its parent keeps private, and tells it in plain numbers.
 
 pub mod access {
     use super::*;

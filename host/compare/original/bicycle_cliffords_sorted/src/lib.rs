@@ -1,5 +1,5 @@
-//! The original's decomposition.rs with its map walks in order, so that its answers are decided; the rest is the
-//! original's own crate.
+//! The original's decomposition.rs with its map walks in order, so that its answers are decided;
+//! the rest is the original's own crate.
 
 mod order;
 

@@ -1,5 +1,5 @@
-//! The part of the original's crate of this name that was ported: compile.rs and what it imports, unchanged. Angles are
-//! not synthesized, so `language` and `small_angle` are stand-ins.
+//! The part of the original's crate of this name that was ported: compile.rs and what it imports,
+//! unchanged. Angles are not synthesized, so `language` and `small_angle` are stand-ins.
 
 pub mod architecture {
     include!(concat!(env!("ORIGINAL"), "/architecture.rs"));

@@ -1,4 +1,5 @@
-//! Log macros that write nothing and still read their arguments, so that no variable of the original is unused.
+//! Log macros that write nothing and still read their arguments, so that no variable of the
+//! original is unused.
 
 #[macro_export]
 macro_rules! trace {

@@ -1,4 +1,5 @@
-//! The traits of rand that the original's samplers name. Nothing here draws a number: samplers are not compared.
+//! The traits of rand that the original's samplers name. Nothing here draws a number: samplers are
+//! not compared.
 
 use std::ops::RangeBounds;
 
