@@ -13,7 +13,7 @@ use Rattle.bicycle_common.specs.declared.Refusal.the-variants.{StringRange}
 use Rattle.bicycle_common.specs.declared.Outcome.the-variants.{Done, Refused as Failed}
 use Rattle.bicycle_common.specs.Instructions.{instructionText, instructionShown}
 use Rattle.text.specs.Puts.{Put}
-use Rattle.text.specs.Reads.{good, bad}
+use Rattle.text.specs.Reads.{Read, good, bad}
 use Rattle.text.proofs.Puts.{put-none}
 use Rattle.pauli_string.specs.declared.TextAnswer.{TextAnswer}
 use Rattle.pauli_string.specs.Strings.{qubits, isString}
@@ -76,21 +76,27 @@ rotation-displayed x a b c d e i = rw i
 
 -- ---- the text of a string
 
--- t prints the number p, which is a string or is refused
-printed-long : (q p : ℕ) (t : Bool) → length (cond t (textAnswer Done (text q p)) (textAnswer (Failed StringRange) (replicate q 0)) .bytes) ≡ q
-printed-long q p true = length-text q p
-printed-long q p false = length-replicate q 0
+-- what is printed of p, which is or is not a string
+module _ (q p : ℕ) where
+  abbrev printedIf : Bool → TextAnswer
+  printedIf t = cond t (textAnswer Done (text q p)) (textAnswer (Failed StringRange) (replicate q 0))
 
-printed-done : (q p : ℕ) (t : Bool) → cond t (textAnswer Done (text q p)) (textAnswer (Failed StringRange) (replicate q 0)) .outcome ≡ Done
-    → good (cond t (textAnswer Done (text q p)) (textAnswer (Failed StringRange) (replicate q 0)) .bytes) ≡ cond t (good (text q p)) (bad StringRange)
-printed-done q p true e = refl
-printed-done q p false e = let z : _≡_ {A = ℕ} 0 1 = cc in absurd (omega arith)
+  abbrev displayedIf : Bool → Read (List ℕ)
+  displayedIf t = cond t (good (text q p)) (bad StringRange)
 
-printed-not : (q p : ℕ) (t : Bool) (r : Refusal) → cond t (textAnswer Done (text q p)) (textAnswer (Failed StringRange) (replicate q 0)) .outcome ≡ Failed r
-    → bad r ≡ cond t (good (text q p)) (bad StringRange)
-printed-not q p true r e = let z : _≡_ {A = ℕ} 0 1 = cc in absurd (omega arith)
-printed-not q p false r e = let i : StringRange ≡ r = cc in rw i
+  printed-long : (t : Bool) → length (printedIf t .bytes) ≡ q
+  printed-long true = length-text q p
+  printed-long false = length-replicate q 0
 
+  printed-done : (t : Bool) → printedIf t .outcome ≡ Done → good (printedIf t .bytes) ≡ displayedIf t
+  printed-done true e = refl
+  printed-done false e = let z : _≡_ {A = ℕ} 0 1 = cc in absurd (omega arith)
+
+  printed-not : (t : Bool) (r : Refusal) → printedIf t .outcome ≡ Failed r → bad r ≡ displayedIf t
+  printed-not true r e = let z : _≡_ {A = ℕ} 0 1 = cc in absurd (omega arith)
+  printed-not false r e = let i : StringRange ≡ r = cc in rw i
+
+-- t prints the number p
 module _ (p : ℕ) (t : TextAnswer) (e : t ≡ printed qubits p) where
   pub printed-length : length (t .bytes) ≡ 12
   printed-length = rw e (printed-long qubits p (isString qubits p))

@@ -99,7 +99,7 @@ pub fn put_rotation_unchecked(out: &mut [u8], place: usize, expansion: RotationA
 
 // ---- the calls
 
-// The twelve bytes of a text.
+// A text of twelve bytes at most.
 fn write_bytes(bytes: &[u8], out: &mut [u8]) -> WriteAnswer
     requires { ⌜ length (now bytes) ≤ 12 ⌝ }
     ensures { λ r. ⌜ Written (good (now (bytes .entry))) (now (out .entry)) r (now (out .exit)) ⌝ }
@@ -155,7 +155,7 @@ fn write_rotation(expansion: RotationAnswer, out: &mut [u8]) -> WriteAnswer
     WriteAnswer::Is(put_rotation_unchecked(out, 0, expansion))
 }
 
-// The instructions of a rotation by native n: 3, then 11 or 10, then 9, which there is no length for where it is refused.
+// The instructions of a rotation by native n: 3, then 11 or 10; 9 where there is a text, and no room for it.
 pub fn rotation_instructions(mx: &[u8], my: &[u8], n: NativeNumber, out: &mut [u8]) -> WriteAnswer
     ensures { λ r. ⌜ Written (rotationDisplayed (rotationInstructions qubits side (now (mx .entry)) (now (my .entry)) (n .0))) (now (out .entry)) r (now (out .exit)) ⌝ }
 {
