@@ -105,7 +105,7 @@ pub fn lookup(words: &Words) -> Told {
 
 /// Writes the plan on paper, and lists that.
 fn listing(pair: &Pair, plan: &Plan) -> Told {
-    let mut paper = format!("mx={}\nmy={}\n", digits(&pair.mx), digits(&pair.my));
+    let mut paper = stated(pair);
     paper += &format!("base={}\n", plan.native);
     for n in &plan.rotations {
         paper += &format!("rotation={n}\n");
@@ -119,6 +119,11 @@ fn listing(pair: &Pair, plan: &Plan) -> Told {
         }
         stop => stop,
     })
+}
+
+/// The lines of a plan on paper that state its matrices.
+fn stated(pair: &Pair) -> String {
+    format!("mx={}\nmy={}\n", digits(&pair.mx), digits(&pair.my))
 }
 
 /// All that the library lists for a plan on paper; its line `refused=N` is a refusal.
@@ -160,14 +165,22 @@ fn number(words: &Words) -> Result<u32, Stop> {
     Ok(digits.parse().unwrap_or(u32::MAX))
 }
 
-/// Lists a plan on paper, from a file or from standard input.
+/// Lists a plan on paper, from a file or from standard input. It states its matrices: where the
+/// words choose a pair, it must be that.
 pub fn plan(words: &Words) -> Told {
+    let chosen = words.chosen()?;
     let paper = match words.optional() {
         Some(file) => front(Path::new(file))?,
         None => files::read_front(&mut io::stdin().lock(), LIST_INPUT)
             .map_err(|e| Stop::File(format!("Standard input cannot be read: {e}.")))?,
     };
-    listed(&paper)
+    let lines = listed(&paper)?;
+    match chosen {
+        Some(pair) if !paper.starts_with(stated(&pair).as_bytes()) => {
+            Err(words.usage("The plan states other matrices than these words."))
+        }
+        _ => Ok(lines),
+    }
 }
 
 fn front(file: &Path) -> Result<Vec<u8>, Stop> {

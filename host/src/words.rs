@@ -16,9 +16,7 @@ pub struct Form {
     pub argument: &'static str,
     /// Whether that may be left out.
     pub optional: bool,
-    /// Whether it takes the options that choose a pair of matrices.
-    pub pair: bool,
-    /// Further options with a value.
+    /// Its options with a value, beside those that choose a pair of matrices.
     pub options: &'static [&'static str],
     /// Options without one.
     pub flags: &'static [&'static str],
@@ -98,10 +96,8 @@ impl Words {
             self.flags.push(flag);
             return Ok(());
         }
-        let of_pair = among(PAIR);
-        let option = match among(self.form.options).or(of_pair.filter(|_| self.form.pair)) {
-            Some(option) => option,
-            None => return Err(self.unknown(word, of_pair.is_some())),
+        let Some(option) = among(self.form.options).or(among(PAIR)) else {
+            return Err(self.usage(format!("`{}` has no option {word:?}.", self.form.name)));
         };
         if self.value(option).is_some() {
             return Err(self.usage(format!("{option} is given twice.")));
@@ -111,15 +107,6 @@ impl Words {
             None => return Err(self.usage(format!("{option} needs a value."))),
         }
         Ok(())
-    }
-
-    fn unknown(&self, word: &OsStr, of_pair: bool) -> Stop {
-        let why = if of_pair {
-            ": its input states the matrices"
-        } else {
-            ""
-        };
-        self.usage(format!("`{}` has no option {word:?}{why}.", self.form.name))
     }
 
     fn counted(&self) -> Result<(), Stop> {
@@ -161,15 +148,20 @@ impl Words {
         self.flags.contains(&flag)
     }
 
-    /// The pair that `--code`, or `--mx` and `--my`, choose: gross, where none is given.
+    /// The pair that the words choose: gross, where they choose none.
     pub fn pair(&self) -> Result<Pair, Stop> {
+        Ok(self.chosen()?.unwrap_or_else(|| Code::Gross.pair()))
+    }
+
+    /// The pair that `--code`, or `--mx` and `--my`, choose.
+    pub fn chosen(&self) -> Result<Option<Pair>, Stop> {
         match (self.value(CODE), self.value(MX), self.value(MY)) {
-            (None, None, None) => Ok(Code::Gross.pair()),
-            (Some(name), None, None) => self.code(name),
-            (None, Some(mx), Some(my)) => Ok(Pair {
+            (None, None, None) => Ok(None),
+            (Some(name), None, None) => self.code(name).map(Some),
+            (None, Some(mx), Some(my)) => Ok(Some(Pair {
                 mx: self.matrix(MX, mx)?,
                 my: self.matrix(MY, my)?,
-            }),
+            })),
             (None, _, _) => Err(self.usage("--mx and --my are given together.")),
             (Some(_), _, _) => Err(self.usage("Give --code, or --mx and --my, but not both.")),
         }

@@ -261,10 +261,8 @@ fn bad_usage() {
     }
     user.run(&["plan", "1", "2"])
         .is_bad_usage("\"2\" is one word too many");
-    for option in ["--code", "--mx", "--my"] {
-        user.run(&["plan", option, "gross"])
-            .is_bad_usage("its input states the matrices");
-    }
+    user.run(&["plan", "--code", "silver"])
+        .is_bad_usage("\"silver\" is neither");
     user.run(&["build", "t", "--queue", "./t"])
         .is_bad_usage("the same file");
     assert!(user.names().is_empty(), "nothing is left");
@@ -353,8 +351,15 @@ fn plans() {
     };
     piped(&paper).answers(LISTING);
     user.run(&["plan", "paper"]).answers(LISTING);
+    user.run_plan_pair(&["plan", "paper"]).answers(LISTING);
+    for other in [["--code", "gross"], ["--code", "two-gross"]] {
+        user.run(&[&["plan", "paper"], &other[..]].concat())
+            .is_bad_usage("states other matrices");
+    }
     piped("").refuses(12, "mx=");
     piped(&paper.replace("533", "540")).refuses(11, "0 to 539");
+    user.run_plan_pair(&["plan", "paper"])
+        .refuses(11, "0 to 539");
     piped(&paper.replace("533", "0")).refuses(10, "pivot");
     piped(&paper.replacen('1', "2", 1)).refuses(3, "0 or 1");
     piped(paper.trim_end()).refuses(12, "mx=");
