@@ -2,19 +2,24 @@
 -- Assumes nothing.
 use mathlib.Core.List.{List}
 use mathlib.Core.Path.{_≡_}
-use Prim.Native.Nat.{ℕ, _%_, _^_, _<_}
+use Prim.Native.Nat.{ℕ, _+_, _*_, _/_, _%_, _^_, _<_}
 use lib.ListN.{length}
 use Rattle.pauli_string.specs.Strings.{rotate}
 use Rattle.natives.specs.Arrays.{at}
 use Rattle.table.specs.Bytes.{entry}
+use Rattle.builder.specs.Digits.{digit}
 
--- how many buckets there are
+-- how many bytes hold the buckets, a binary digit each
 abbrev pub buckets : ℕ
 buckets = 262144
 
+-- the number of p's bucket: p without digits 6, 18 and 23
+abbrev pub place : ℕ → ℕ
+place p = p % 64 + p / 128 % 2048 * 64 + p / 524288 % 16 * 131072
+
 -- the bucket of p
 abbrev pub bucket : List ℕ → ℕ → ℕ
-bucket filter p = at filter (p % buckets)
+bucket filter p = digit filter (place p)
 
 -- every string that one of the first m rotations leads to a string without an entry has its bucket set
 pub record Covers (q : ℕ) (rs : List ℕ) (m : ℕ) (filter t : List ℕ) : Type 0 where
@@ -23,7 +28,7 @@ pub record Covers (q : ℕ) (rs : List ℕ) (m : ℕ) (filter t : List ℕ) : Ty
 
 -- no bucket that was set is 0
 abbrev pub Rises : List ℕ → List ℕ → Type 0
-Rises before after = (j : ℕ) → at after j ≡ 0 → at before j ≡ 0
+Rises before after = (b : ℕ) → digit after b ≡ 0 → digit before b ≡ 0
 
 -- the buckets of what the first k rotations lead z to are set
 abbrev pub Marked : ℕ → List ℕ → List ℕ → ℕ → ℕ → Type 0

@@ -3,5 +3,8 @@
 pub mod Model
 pub mod Answers
 pub mod States
+pub mod Digits
+pub mod Short
 pub mod Packed
 pub mod Filter
+pub mod Scans

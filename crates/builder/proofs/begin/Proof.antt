@@ -1,10 +1,15 @@
 -- `builder::begin` meets its contract: zeros everywhere, and then one value. Assumes nothing.
 use borrow.Author.Needs.{needs}
-use mathlib.Core.Path.{ap, ap₂, _∙_}
+use mathlib.Core.Path.{_≡_, sym, ap, ap₂, subst, _∙_}
+use mathlib.Core.Bool.{true}
 use mathlib.Core.List.{List}
-use Rattle.table.specs.Bytes.{put, zeros}
+use lib.Dec.{lit<, lit≤}
+use Rattle.pauli_string.specs.Strings.{qubits}
+use Rattle.table.specs.Bytes.{tableLength, put, zeros}
 use Rattle.table.specs.Entries.{identity}
 use Rattle.builder.specs.Model.{state, begun}
+use Rattle.builder.specs.Short.{strung, noted, Notes}
+use Rattle.builder.proofs.Short.{strung-noted, strung-zeros, notes-begun}
 use Rattle.builder.proofs.begin.Statement.{statement}
 use Rattle.builder.proofs.begin.Tie as tie
 
@@ -17,6 +22,9 @@ clear-unchecked-requires-2 c κs = search needs
 put-unchecked-requires : tie.Need-put-unchecked-requires
 put-unchecked-requires c κs = search needs
 
+note-requires : tie.Need-note-requires
+note-requires c κs = search needs
+
 same-length : tie.Need-same-length
 same-length c = search needs
 
@@ -26,13 +34,18 @@ same-length-2 c = search needs
 returns : tie.Need-returns
 unfolding begun
 returns c =
-    let p = c .before .before in
+    let n = c .before .before in
+    let p = n .before .before .before .before in
     let u = p .before .before .before .before in
     let t = u .before .before .before .before in
     let s = t .before .before .before .before in
-    ap₂ (λ (t u : List _). state t u 0)
-    (p .put-unchecked .ensures ∙ ap (λ (t : List _). put t 0 identity) (t .clear-unchecked .ensures ∙ ap zeros (s .pre .0)))
-    (u .clear-unchecked2 .ensures ∙ ap zeros (s .pre .1))
+    let k = tableLength qubits in
+    let eT : p .put-unchecked .last .0 ≡ put (zeros k) 0 identity =
+    p .put-unchecked .ensures ∙ ap (λ (t : List _). put t 0 identity) (t .clear-unchecked .ensures ∙ ap zeros (s .pre .0)) in
+    let eQ : n .note .last .0 ≡ noted true (zeros k) 0 = n .note .ensures ∙ ap (λ (l : List _). noted true l 0) (u .clear-unchecked2 .ensures ∙ ap zeros (s .pre .1)) in (
+      ap₂ (λ (t u : List _). state t u 0) eT (ap (strung true) eQ ∙ strung-noted true (zeros k) 0 ∙ strung-zeros k (lit≤ tt)),
+      subst (λ (l : List _). Notes true qubits l (p .put-unchecked .last .0)) (sym eQ) (subst (λ (t : List _). Notes true qubits (noted true (zeros k) 0) t) (sym eT) (notes-begun qubits k (lit< tt))),
+    )
 
 pub begin-spec : {M : Type 1} → statement M
 begin-spec =
@@ -41,6 +54,7 @@ begin-spec =
     clear-unchecked-requires
     clear-unchecked-requires-2
     put-unchecked-requires
+    note-requires
     same-length
     same-length-2
     returns)

@@ -19,7 +19,7 @@ use Rattle.builder.proofs.build_from.Tie as tie
 searched : (c : tie.After-search)
     → state (c .search .last .0) (c .search .last .1 .0) (c .search .result) ≡ built qubits (at (c .before .before .before .before .before .before .before .before .before .before .before .before .before .before .before .before .before .before .before .before .args .strings .now))
 unfolding built
-searched c = c .search .ensures ∙ ap (inTurn (4 ^ qubits) (expand qubits (at (c .before .before .before .before .before .before .before .before .before .before .before .before .before .before .before .before .before .before .before .before .args .strings .now)))) (c .before .before .before .before .before .before .before .seeds .ensures)
+searched c = c .search .ensures ∙ ap (inTurn (4 ^ qubits) (expand qubits (at (c .before .before .before .before .before .before .before .before .before .before .before .before .before .before .before .before .before .before .before .before .args .strings .now)))) (c .before .before .before .before .before .before .before .seeds .ensures .0)
 
 searched-good : (c : tie.After-search) → Good qubits (built qubits (at (c .before .before .before .before .before .before .before .before .before .before .before .before .before .before .before .before .before .before .before .before .args .strings .now)))
 searched-good c = built-good qubits twelve (at (c .before .before .before .before .before .before .before .before .before .before .before .before .before .before .before .before .before .before .before .before .args .strings .now)) (c .before .before .before .before .before .before .before .before .before .before .before .before .before .before .before .before .before .before .before .before .pre .1 .0 .small)
@@ -34,7 +34,7 @@ search-requires : tie.Need-search-requires
 search-requires c κs =
     let d = c .before .before .before .before .before .before in
     let s = d .before .before .before .before .before .before .before .before .before .before .before .before .before in
-    (s .pre .1, subst (Good qubits) (sym (d .seeds .ensures)) (seeded-good qubits twelve (at (s .args .strings .now)) (s .pre .1 .0 .small)))
+    (s .pre .1, (subst (Good qubits) (sym (d .seeds .ensures .0)) (seeded-good qubits twelve (at (s .args .strings .now)) (s .pre .1 .0 .small)), d .seeds .ensures .1))
 
 deepest-unchecked-requires : tie.Need-deepest-unchecked-requires
 deepest-unchecked-requires c κs = search needs

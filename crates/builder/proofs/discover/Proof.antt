@@ -1,48 +1,38 @@
 -- `builder::discover` meets its contract: a string without an entry leaves room in the queue and for its value, and what is put is the
 -- model's. Assumes nothing.
--- room in the queue, and for the depth
 use borrow.Author.Needs.{needs}
-use mathlib.Core.Path.{_≡_, sym, _∙_}
+use mathlib.Core.Path.{_≡_, sym, ap, _∙_}
+use mathlib.Core.List.{List}
 use Prim.Native.Nat.{_+_, _^_, _<_}
 use native.Mathlib.Omega.{arith}
+use lib.ListN.{length}
 use Rattle.pauli_string.specs.Strings.{qubits}
 use Rattle.table.specs.Bytes.{entry}
 use Rattle.table.specs.Entries.{value}
 use Rattle.builder.specs.Model.{state}
 use Rattle.builder.specs.States.{twelve}
+use Rattle.builder.specs.Short.{strung, noted}
+use Rattle.builder.proofs.Model.{discover-old}
 use Rattle.builder.proofs.States.{count-room, depth-room}
-use Rattle.builder.proofs.Model.{discover-new, discover-old}
+use Rattle.builder.proofs.Short.{length-strung, found-new}
 use Rattle.builder.proofs.discover.Statement.{statement}
 use Rattle.builder.proofs.discover.Tie as tie
 
-rooms : (c : tie.Then1) → (c .before .before .before .before .before .args .count + 1 < 4 ^ qubits) × (c .before .before .before .before .before .args .depth < 4 ^ 11)
-rooms c =
-    let s = c .before .before .before .before .before in
+-- the queue has its length with and without digits
+long : (s : tie.Start) → length (s .args .queue .now) ≡ 67108864
+long s = sym (length-strung (s .args .short) (s .args .queue .now)) ∙ s .pre .0 .0 .queue-long
+
+-- room in the queue, and for the depth
+rooms : (s : tie.Start) → entry (s .args .table .now) (s .args .x) ≡ 0 → (s .args .count + 1 < 4 ^ qubits) × (s .args .depth < 4 ^ 11)
+rooms s z =
     let a = s .args in
-    let w = state (a .table .now) (a .queue .now) (a .count) in
-    let z : entry (a .table .now) (a .x) ≡ 0 = sym (c .before .entry-unchecked .ensures) ∙ c .if1 .taken in
-    (count-room qubits twelve w (s .pre .0) (a .x) (a .depth) (a .n) (s .pre .1) z, depth-room qubits twelve w (s .pre .0) (a .x) (a .depth) (a .n) (s .pre .1) z)
+    let w = state (a .table .now) (strung (a .short) (a .queue .now)) (a .count) in
+    (count-room qubits twelve w (s .pre .0 .0) (a .x) (a .depth) (a .n) (s .pre .0 .1) z, depth-room qubits twelve w (s .pre .0 .0) (a .x) (a .depth) (a .n) (s .pre .0 .1) z)
 
-entry-unchecked-requires : tie.Need-entry-unchecked-requires
-entry-unchecked-requires c κs = search needs
-
-mul-put-unchecked : tie.Need-mul-put-unchecked
-mul-put-unchecked c = omega (arith, rooms (c .before))
-
-add-put-unchecked : tie.Need-add-put-unchecked
-add-put-unchecked c = search needs
-
-add-put-unchecked-2 : tie.Need-add-put-unchecked-2
-add-put-unchecked-2 c = omega (arith, rooms (c .before), c .before .before .before .before .before .before .pre .1 .native-below)
-
-put-unchecked-requires : tie.Need-put-unchecked-requires
-put-unchecked-requires c κs = search needs
-
-put-unchecked-requires-2 : tie.Need-put-unchecked-requires-2
-put-unchecked-requires-2 c κs = omega (arith, rooms (c .before .before .before .before .before), c .before .before .before .before .before .before .before .before .before .before .pre .0 .queue-long)
-
-add-result : tie.Need-add-result
-add-result c = omega (arith, rooms (c .before .before .before .before .before .before .before .before))
+has-requires : tie.Need-has-requires
+has-requires c κs =
+    let s = c .before .before .before .before in
+    (s .pre .0 .1 .small, s .pre .0 .0 .table-long, long s, s .pre .1 .0)
 
 same-length : tie.Need-same-length
 same-length c = search needs
@@ -51,33 +41,74 @@ same-length-2 : tie.Need-same-length-2
 same-length-2 c = search needs
 
 returns : tie.Need-returns
-unfolding value
 returns c =
-    let t = c .before .before .before .before .before .before .before .before in
-    let a = t .before .before .before .before .before .args in
-    cc (discover-new (state (a .table .now) (a .queue .now) (a .count)) (a .x) (value (a .depth) (a .n)) (sym (t .before .entry-unchecked .ensures) ∙ t .if1 .taken))
+    let s = c .before .before .before .before .before .before in
+    let a = s .args in
+    (sym (discover-old (state (a .table .now) (strung (a .short) (a .queue .now)) (a .count)) (a .x) (value (a .depth) (a .n)) (c .before .has .ensures .0 (c .if1 .taken))), s .pre .1 .0)
+
+mul-put-unchecked : tie.Need-mul-put-unchecked
+mul-put-unchecked c = omega (arith, rooms (c .before .before .before .before .before .before .before) (c .before .before .has .ensures .1 (c .before .if1 .left)))
+
+add-put-unchecked : tie.Need-add-put-unchecked
+add-put-unchecked c = search needs
+
+add-put-unchecked-2 : tie.Need-add-put-unchecked-2
+add-put-unchecked-2 c = omega (arith, rooms (c .before .before .before .before .before .before .before) (c .before .before .has .ensures .1 (c .before .if1 .left)), c .before .before .before .before .before .before .before .pre .0 .1 .native-below)
+
+put-unchecked-requires : tie.Need-put-unchecked-requires
+put-unchecked-requires c κs = search needs
+
+put-unchecked-requires-2 : tie.Need-put-unchecked-requires-2
+put-unchecked-requires-2 c κs =
+    let i = c .before .before .before .before .before in
+    let s = i .before .before .before .before .before .before in
+    omega (arith, rooms s (i .before .has .ensures .1 (i .if1 .left)), long s)
+
+note-requires : tie.Need-note-requires
+note-requires c κs =
+    let p = c .before .before .before in
+    let s = c .before .before .before .before .before .before .before .before .before .before .before .before .before .before .before in
+    (s .pre .0 .1 .small, p .put-unchecked2 .kept .0 ∙ long s)
+
+add-result : tie.Need-add-result
+add-result c =
+    let i = c .before .before .before .before .before .before .before .before .before .before .before .before in
+    omega (arith, rooms (i .before .before .before .before .before .before) (i .before .has .ensures .1 (i .if1 .left)))
 
 same-length-3 : tie.Need-same-length-3
 same-length-3 c = search needs
 
+same-length-4 : tie.Need-same-length-4
+same-length-4 c = search needs
+
 returns-2 : tie.Need-returns-2
+unfolding value
 returns-2 c =
-    let a = c .before .before .before .before .before .args in
-    sym (discover-old (state (a .table .now) (a .queue .now) (a .count)) (a .x) (value (a .depth) (a .n)) (λ z. c .if1 .left (c .before .entry-unchecked .ensures ∙ z)))
+    let n = c .before .before in
+    let u = n .before .before .before .before in
+    let p = u .before .before .before .before in
+    let i = p .before .before in
+    let s = i .before .before .before .before .before .before in
+    let a = s .args in
+    found-new (a .short) qubits twelve (a .table .now) (a .queue .now) (a .count) (a .x) (a .depth) (a .n) (s .pre .0 .0) (s .pre .0 .1) (p .put-unchecked .last .0) (n .note .last .0)
+    (omega (arith, long s, s .pre .0 .1 .small)) (s .pre .1 .1) (s .pre .1 .0) (i .before .has .ensures .1 (i .if1 .left)) (p .put-unchecked .ensures)
+    (n .note .ensures ∙ ap (λ (l : List _). noted (a .short) l (a .x)) (u .put-unchecked2 .ensures))
 
 pub discover-spec : {M : Type 1} → statement M
 discover-spec =
     tie.close
     (tie.spec
-    entry-unchecked-requires
+    has-requires
+    same-length
+    same-length-2
+    returns
     mul-put-unchecked
     add-put-unchecked
     add-put-unchecked-2
     put-unchecked-requires
     put-unchecked-requires-2
+    note-requires
     add-result
-    same-length
-    same-length-2
-    returns
     same-length-3
+    same-length-4
     returns-2)

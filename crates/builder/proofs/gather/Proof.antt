@@ -55,7 +55,9 @@ element-write-gs : tie.Need-element-write-gs Inv-loop μ-loop
 element-write-gs c = search needs
 
 odd-requires : tie.Need-odd-requires Inv-loop μ-loop
-odd-requires c κs = search needs
+odd-requires c κs =
+    let l = c .before .before .before in
+    l .before .before .pre .2 .small (l .loop .i)
 
 add-k : tie.Need-add-k Inv-loop μ-loop
 add-k c = search needs

@@ -1,13 +1,13 @@
 -- `builder::mark` meets its contract: each rotation sets one bucket, and none is cleared. Assumes nothing.
 use borrow.Author.Needs.{needs}
-use mathlib.Core.Path.{_≡_, sym, subst, _∙_}
-use Prim.Native.Nat.{ℕ, _+_, _≤_, _<_, _-_, _%_}
+use mathlib.Core.Path.{_≡_, subst}
+use Prim.Native.Nat.{ℕ, _≤_, _-_}
 use native.Mathlib.Omega.{arith}
-use lib.ListN.{set, length, length-set}
+use lib.ListN.{length}
 use Rattle.pauli_string.specs.Strings.{qubits, rotate}
 use Rattle.natives.specs.Arrays.{at}
-use Rattle.builder.specs.Filter.{buckets, Rises, Marked}
-use Rattle.builder.proofs.Filter.{rises-set, marked-more}
+use Rattle.builder.specs.Filter.{buckets, bucket, Rises, Marked}
+use Rattle.builder.proofs.Filter.{marked-more}
 use Rattle.builder.proofs.mark.Statement.{statement}
 use Rattle.builder.proofs.mark.Tie as tie
 
@@ -20,11 +20,11 @@ abbrev μ-loop : tie.MeasureT-loop
 loop-holds : tie.Need-loop-holds Inv-loop μ-loop
 loop-holds c = (omega arith, c .pre .0, λ j h. h, λ i h. absurd (omega arith))
 
-mul-h : tie.Need-mul-h Inv-loop μ-loop
-mul-h c = search needs
+mul-r : tie.Need-mul-r Inv-loop μ-loop
+mul-r c = search needs
 
-element-copy-out-h : tie.Need-element-copy-out-h Inv-loop μ-loop
-element-copy-out-h c = search needs
+element-copy-out-r : tie.Need-element-copy-out-r Inv-loop μ-loop
+element-copy-out-r c = search needs
 
 rotate-unchecked-requires : tie.Need-rotate-unchecked-requires Inv-loop μ-loop
 rotate-unchecked-requires c κs =
@@ -32,11 +32,8 @@ rotate-unchecked-requires c κs =
     let s = l .before in
     (s .pre .1, s .pre .3 (l .loop .i))
 
-cast-h : tie.Need-cast-h Inv-loop μ-loop
-cast-h c = search needs
-
-element-write-filter : tie.Need-element-write-filter Inv-loop μ-loop
-element-write-filter c = search needs
+set-bucket-requires : tie.Need-set-bucket-requires Inv-loop μ-loop
+set-bucket-requires c κs = search needs
 
 add-i : tie.Need-add-i Inv-loop μ-loop
 add-i c = search needs
@@ -46,17 +43,16 @@ loop-less c = search needs
 
 loop-again : tie.Need-loop-again Inv-loop μ-loop
 loop-again c =
-    let l = c .before .before .before .before in
+    let r = c .before .before in
+    let l = r .before .before .before in
     let a = l .before .args in
-    let h = rotate qubits (a .z) (at (a .rs .now) (l .loop .i)) % buckets in
-    let b : h < length (l .loop .filter) = omega (arith, l .loop .inv .1) in
-    subst
-    (λ (x : ℕ). (l .loop .i + 1 ≤ a .m) × (length (set (l .loop .filter) (x % buckets) 1) ≡ buckets) × Rises (a .filter .now) (set (l .loop .filter) (x % buckets) 1) × Marked qubits (a .rs .now) (set (l .loop .filter) (x % buckets) 1) (a .z) (l .loop .i + 1))
-    (sym (c .before .rotate-unchecked .ensures)) (
+    let g = c .set-bucket .last .1 .0 in
+    let o : bucket g (rotate qubits (a .z) (at (a .rs .now) (l .loop .i))) ≡ 1 =
+    subst (λ (x : ℕ). bucket g x ≡ 1) (r .rotate-unchecked .ensures) (c .set-bucket .ensures .2) in (
       omega arith,
-      length-set (l .loop .filter) h 1 ∙ l .loop .inv .1,
-      λ j w. l .loop .inv .2 j (rises-set (l .loop .filter) h b j w),
-      marked-more qubits (a .rs .now) (l .loop .filter) (a .z) (l .loop .i) b (l .loop .inv .3),
+      c .set-bucket .ensures .0,
+      λ b w. l .loop .inv .2 b (c .set-bucket .ensures .1 b w),
+      marked-more qubits (a .rs .now) (l .loop .filter) g (a .z) (l .loop .i) (c .set-bucket .ensures .1) o (l .loop .inv .3),
     )
 
 returns : tie.Need-returns Inv-loop μ-loop
@@ -73,11 +69,10 @@ mark-spec =
     Inv-loop
     μ-loop
     loop-holds
-    mul-h
-    element-copy-out-h
+    mul-r
+    element-copy-out-r
     rotate-unchecked-requires
-    cast-h
-    element-write-filter
+    set-bucket-requires
     add-i
     loop-less
     loop-again

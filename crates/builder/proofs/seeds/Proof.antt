@@ -1,6 +1,7 @@
 -- `builder::seeds` meets its contract: after n natives the state is the model's, and in range. Assumes nothing.
 use borrow.Author.Needs.{needs}
 use mathlib.Core.Path.{_≡_, refl, sym, ap, subst, _∙_}
+use mathlib.Core.Bool.{true}
 use Prim.Native.Nat.{ℕ, _≤_, _-_}
 use native.Mathlib.Omega.{arith}
 use lib.ListN.{length}
@@ -8,16 +9,18 @@ use Rattle.bicycle_common.specs.Ranges.{inTurn}
 use Rattle.bicycle_common.proofs.Ranges.{in-turn-none, in-turn-next}
 use Rattle.pauli_string.specs.Strings.{qubits}
 use Rattle.natives.specs.Arrays.{at}
-use Rattle.builder.specs.Model.{state, begun, seed, seeded}
+use Rattle.builder.specs.Model.{State, state, begun, seed, seeded}
 use Rattle.builder.specs.States.{twelve, Good}
+use Rattle.builder.specs.Short.{strung, Notes}
+use Rattle.builder.proofs.Short.{seed-count}
 use Rattle.builder.proofs.States.{begun-good, seed-good}
 use Rattle.builder.proofs.seeds.Statement.{statement}
 use Rattle.builder.proofs.seeds.Tie as tie
 
 abbrev Inv-loop : tie.InvT-loop
 Inv-loop table₀ queue₀ strings c₀ n₀ table queue c n =
-    (n ≤ 540) × (length table ≡ length table₀) × (length queue ≡ length queue₀) × Good qubits (state table queue c)
-    × (state table queue c ≡ inTurn n (seed (at strings)) (begun qubits))
+    (n ≤ 540) × (length table ≡ length table₀) × (length queue ≡ length queue₀) × Good qubits (state table (strung true queue) c)
+    × (state table (strung true queue) c ≡ inTurn n (seed (at strings)) (begun qubits)) × (c ≤ n) × Notes true qubits queue table
 
 abbrev μ-loop : tie.MeasureT-loop
 μ-loop table₀ queue₀ strings c₀ n₀ table queue c n = 540 - n
@@ -25,13 +28,13 @@ abbrev μ-loop : tie.MeasureT-loop
 loop-holds : tie.Need-loop-holds Inv-loop μ-loop
 loop-holds c =
     let s = c .before .before .before in
-    (omega arith, refl, refl, subst (Good qubits) (sym (s .pre .1)) (begun-good qubits), s .pre .1 ∙ sym (in-turn-none (seed (at (s .args .strings .now))) (begun qubits)))
+    (omega arith, refl, refl, subst (Good qubits) (sym (s .pre .1 .0)) (begun-good qubits), s .pre .1 .0 ∙ sym (in-turn-none (seed (at (s .args .strings .now))) (begun qubits)), omega arith, s .pre .1 .1)
 
 seed-requires : tie.Need-seed-requires Inv-loop μ-loop
 seed-requires c κs =
     let l = c .before .before .before in
     let s = l .before .before .before .before in
-    ((c .before .before .loop-test .taken, s .pre .0), l .loop .inv .3)
+    ((c .before .before .loop-test .taken, s .pre .0), (l .loop .inv .3, l .loop .inv .6, λ e. omega (arith, l .loop .inv .5, c .before .before .loop-test .taken)))
 
 add-n : tie.Need-add-n Inv-loop μ-loop
 add-n c = search needs
@@ -45,12 +48,14 @@ loop-again c =
     let l = d .before .before .before .before in
     let s = l .before .before .before .before in
     let f = at (s .args .strings .now) in
-    let w = state (l .loop .table) (l .loop .queue) (l .loop .c) in (
+    let w = state (l .loop .table) (strung true (l .loop .queue)) (l .loop .c) in (
       omega arith,
       d .seed .kept .0 ∙ l .loop .inv .1,
       d .seed .kept .1 .0 ∙ l .loop .inv .2,
-      subst (Good qubits) (sym (d .seed .ensures)) (seed-good qubits twelve f (l .loop .n) w (s .pre .0 .small (l .loop .n)) (d .before .before .before .loop-test .taken) (l .loop .inv .3)),
-      d .seed .ensures ∙ ap (seed f (l .loop .n)) (l .loop .inv .4) ∙ sym (in-turn-next (l .loop .n) (seed f) (begun qubits)),
+      subst (Good qubits) (sym (d .seed .ensures .0)) (seed-good qubits twelve f (l .loop .n) w (s .pre .0 .small (l .loop .n)) (d .before .before .before .loop-test .taken) (l .loop .inv .3)),
+      d .seed .ensures .0 ∙ ap (seed f (l .loop .n)) (l .loop .inv .4) ∙ sym (in-turn-next (l .loop .n) (seed f) (begun qubits)),
+      omega (arith, ap (λ (s : State). s .count) (d .seed .ensures .0), seed-count f (l .loop .n) w, l .loop .inv .5),
+      d .seed .ensures .1,
     )
 
 same-length : tie.Need-same-length Inv-loop μ-loop
@@ -64,7 +69,7 @@ unfolding seeded
 returns c =
     let l = c .before in
     let z : l .loop .n ≡ 540 = omega arith in
-    l .loop .inv .4 ∙ ap (λ (n : ℕ). inTurn n (seed (at (l .before .before .before .before .args .strings .now))) (begun qubits)) z
+    (l .loop .inv .4 ∙ ap (λ (n : ℕ). inTurn n (seed (at (l .before .before .before .before .args .strings .now))) (begun qubits)) z, l .loop .inv .6)
 
 pub seeds-spec : {M : Type 1} → statement M
 seeds-spec =

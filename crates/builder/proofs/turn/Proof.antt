@@ -6,6 +6,7 @@ use Rattle.pauli_string.specs.Strings.{qubits}
 use Rattle.natives.specs.Arrays.{at}
 use Rattle.builder.specs.Model.{state}
 use Rattle.builder.specs.States.{twelve}
+use Rattle.builder.specs.Short.{strung}
 use Rattle.builder.proofs.States.{moving-asks}
 use Rattle.builder.proofs.turn.Statement.{statement}
 use Rattle.builder.proofs.turn.Tie as tie
@@ -20,8 +21,8 @@ visits-requires c κs =
     let a = s .args in
     let xs = g .gather .last .1 .1 .1 .1 .0 in
     let gs = g .gather .last .1 .1 .1 .1 .1 .0 in (
-      (omega (arith, g .gather .ensures .front, s .pre .1 .few), s .pre .2 .good),
-      λ j h. moving-asks qubits twelve (a .p) (a .depth) (at xs j) (at gs j) (state (a .table .now) (a .queue .now) (a .count)) (g .gather .ensures .beside j h) (s .pre .2),
+      (omega (arith, g .gather .ensures .front, s .pre .0 .1 .few), s .pre .0 .2 .good, s .pre .1 .0, s .pre .1 .1),
+      λ j h. moving-asks qubits twelve (a .p) (a .depth) (at xs j) (at gs j) (state (a .table .now) (strung (a .short) (a .queue .now)) (a .count)) (g .gather .ensures .beside j h) (s .pre .0 .2),
     )
 
 same-length : tie.Need-same-length
@@ -37,7 +38,8 @@ returns c =
     let s = g .before .before .before .before .before in
     let a = s .args in (
       g .gather .ensures .scratch,
-      v .visits .ensures ∙ g .gather .ensures .same (a .depth) (state (a .table .now) (a .queue .now) (a .count)) (s .pre .2 .has),
+      v .visits .ensures .0 ∙ g .gather .ensures .same (a .depth) (state (a .table .now) (strung (a .short) (a .queue .now)) (a .count)) (s .pre .0 .2 .has),
+      v .visits .ensures .1,
     )
 
 pub turn-spec : {M : Type 1} → statement M

@@ -2,6 +2,7 @@
 use borrow.Author.Needs.{needs}
 use mathlib.Core.Path.{sym, ap, subst, _∙_}
 use Prim.Native.Nat.{ℕ, _+_}
+use borrow.Author.Tests.{eqb-true}
 use Rattle.bicycle_common.specs.Ranges.{inTurn}
 use Rattle.pauli_string.specs.Strings.{qubits}
 use Rattle.table.specs.Bytes.{entry}
@@ -9,22 +10,22 @@ use Rattle.table.specs.Entries.{depth}
 use Rattle.builder.specs.Model.{state}
 use Rattle.builder.specs.States.{Moving}
 use Rattle.builder.specs.Packed.{packedTried}
+use Rattle.builder.specs.Filter.{bucket}
+use Rattle.builder.specs.Short.{strung}
 use Rattle.builder.proofs.Filter.{covers-idle}
 use Rattle.builder.proofs.visit.Statement.{statement}
 use Rattle.builder.proofs.visit.Tie as tie
 
-cast-h : tie.Need-cast-h
-cast-h c = search needs
-
-element-copy-out-if1 : tie.Need-element-copy-out-if1
-element-copy-out-if1 c = search needs
+is-clear-requires : tie.Need-is-clear-requires
+is-clear-requires c κs = search needs
 
 returns : tie.Need-returns
 returns c =
     let s = c .before .before .before .before in
     let a = s .args in (
-      s .pre .0,
-      sym (covers-idle qubits (a .rs .now) (a .ns .now) (a .m) (a .filter .now) (a .p) (depth (entry (a .table .now) (a .p)) + 1) (state (a .table .now) (a .queue .now) (a .count)) (s .pre .2) (s .pre .3 .small) (c .if1 .taken)),
+      s .pre .0 .0,
+      sym (covers-idle qubits (a .rs .now) (a .ns .now) (a .m) (a .filter .now) (a .p) (depth (entry (a .table .now) (a .p)) + 1) (state (a .table .now) (strung (a .short) (a .queue .now)) (a .count)) (s .pre .0 .2) (s .pre .0 .3 .small) (eqb-true (bucket (a .filter .now) (a .p)) 0 (sym (c .before .is-clear .ensures) ∙ c .if1 .taken))),
+      s .pre .1 .0,
     )
 
 entry-unchecked-requires : tie.Need-entry-unchecked-requires
@@ -38,7 +39,7 @@ turn-requires c κs =
     let e = c .before .before .before .before in
     let s = e .before .before .before .before .before .before in
     let a = s .args in
-    (s .pre .0, s .pre .1, subst (λ (v : ℕ). Moving qubits (a .p) (depth v + 1) (state (a .table .now) (a .queue .now) (a .count))) (sym (e .entry-unchecked .ensures)) (s .pre .3))
+    ((s .pre .0 .0, s .pre .0 .1, subst (λ (v : ℕ). Moving qubits (a .p) (depth v + 1) (state (a .table .now) (strung (a .short) (a .queue .now)) (a .count))) (sym (e .entry-unchecked .ensures)) (s .pre .0 .3)), s .pre .1)
 
 same-length : tie.Need-same-length
 same-length c = search needs
@@ -52,15 +53,15 @@ returns-2 c =
     let e = t .before .before .before .before .before in
     let a = e .before .before .before .before .before .before .args in (
       t .turn .ensures .0,
-      t .turn .ensures .1 ∙ ap (λ (v : ℕ). inTurn (a .m) (packedTried qubits (a .rs .now) (a .ns .now) (a .p) (depth v + 1)) (state (a .table .now) (a .queue .now) (a .count))) (e .entry-unchecked .ensures),
+      t .turn .ensures .1 ∙ ap (λ (v : ℕ). inTurn (a .m) (packedTried qubits (a .rs .now) (a .ns .now) (a .p) (depth v + 1)) (state (a .table .now) (strung (a .short) (a .queue .now)) (a .count))) (e .entry-unchecked .ensures),
+      t .turn .ensures .2,
     )
 
 pub visit-spec : {M : Type 1} → statement M
 visit-spec =
     tie.close
     (tie.spec
-    cast-h
-    element-copy-out-if1
+    is-clear-requires
     returns
     entry-unchecked-requires
     add-turn
