@@ -1,4 +1,5 @@
--- The ceiling falls native by native. Below it every native's value is right, and it breaks its rule itself. Assumes nothing.
+-- The ceiling falls native by native. Below it every native's value is right, and it breaks its rule itself. Where a test below it fails, the
+-- scan stops there; else at the ceiling. Assumes nothing.
 use mathlib.Core.Path.{_≡_, refl, sym, ap, subst, _∙_}
 use Prim.Native.Nat.{ℕ, _+_, _^_, _<_}
 use native.Mathlib.Omega.{arith}
@@ -7,7 +8,8 @@ use Rattle.pauli_string.proofs.Range.{four-pos}
 use Rattle.native_measurement.specs.Natives.{natives}
 use Rattle.table.specs.Entries.{depth, Names, identity, KeptFor}
 use Rattle.table.specs.Rules.{Rule}
-use Rattle.table_check.specs.Tests.{Right, Wrong, Ceiling, Stops}
+use Rattle.table_check.specs.Tests.{Right, Wrong, Ceiling, Tested, Scanned, Stops}
+use Rattle.table_check.proofs.Index.{rule-tested}
 
 module _ (q : ℕ) (f e : ℕ → ℕ) where
   -- before the first native
@@ -51,16 +53,26 @@ module _ (q : ℕ) (f e : ℕ → ℕ) where
 
   module _ (r : ℕ) (C : Ceiling q f e natives r) where
     -- below it a native's value is right
-    pub below-right : (p : ℕ) → (p ≡ 0 → ⊥) → p < r → Right f e p
+    below-right : (p : ℕ) → (p ≡ 0 → ⊥) → p < r → Right f e p
     below-right p s l n k = C .right p n (k .below) k s l
 
     -- it is not 0, which is no nonzero string
     pub ceiling-positive : 0 < r
     ceiling-positive = elim (ℕ-discrete r 0) [ yes z ↦ absurd (C .wrong (omega (arith, four-pos q)) .some z) | no g ↦ omega arith ]
 
-    -- where every index below it meets its rule, it is where the check stops
-    pub ceiling-stops : ((p : ℕ) → p < r → Rule q f e p) → Stops q f e r
-    ceiling-stops h = record { within = C .within; meets = h; breaks = λ l. wrong-breaks r (C .wrong l) }
+    -- where the tests pass below it, it is where they stop
+    pub ceiling-scanned : (top : ℕ) → ((p : ℕ) → (p ≡ 0 → ⊥) → p < r → Tested q f e top p) → Scanned q f e top r
+    ceiling-scanned top h = record { within = C .within; right = below-right; tested = h; breaks = λ l. wrong-breaks r (C .wrong l) }
+
+    -- and else where one fails below it
+    pub fails-scanned : (top p : ℕ) → ((x : ℕ) → e x < 2 ^ 32) → (p ≡ 0 → ⊥) → p < r
+        → ((j : ℕ) → (j ≡ 0 → ⊥) → j < p → Tested q f e top j) → (Tested q f e top p → ⊥) → Scanned q f e top p
+    fails-scanned top p fits some l h g = record {
+      within = omega (arith, C .within);
+      right = λ j s w. below-right j s (omega arith);
+      tested = h;
+      breaks = λ _ rule. g (rule-tested q f e p some (below-right p some l) fits top rule);
+    }
 
   -- ---- index 0
 

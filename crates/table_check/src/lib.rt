@@ -1,8 +1,11 @@
 // The check of a measurement table: that every index meets its rule, or the lowest that breaks it.
 //
 // Added: the original has none. The rule of an index is document 01's, in the definitions of `table`. The natives' values
-// are read first: below the lowest wrong one a value tells whether its string is a native's, without a search. Then every
-// index is tested, in order, with every rotation; the contracts say nothing of this order of work.
+// are read first: below the lowest wrong one a value tells whether its string is a native's, without a search. What is
+// left of a rule is a test of the value itself, which is cheap, and that no rotation leads two or more down. Rotations
+// lead back, so each is seen from one of its ends, and most strings are spared. Strings that stand above a height `top` are
+// tested with every rotation, in order; the others from those two or more below `top`. Every `top` gives the same answer,
+// so it is chosen by the work it makes; the contracts say nothing of that.
 //
 // Copyright contributors to the Bicycle Architecture Compiler project. Licensed under the Apache License, Version 2.0
 // (see NOTICE).
@@ -12,7 +15,7 @@ use pauli_string::PauliString;
 use pauli_string::STRINGS;
 ghost use mathlib.Core.Path.{_≡_};
 ghost use mathlib.Core.Bool.{true};
-ghost use Prim.Native.Nat.{ℕ, _+_, _-_, _*_, _^_, _<_, _≤_};
+ghost use Prim.Native.Nat.{ℕ, _+_, _^_, _<_, _≤_};
 ghost use lib.ListN.{length};
 ghost use Rattle.pauli_string.specs.Strings.{qubits};
 ghost use Rattle.native_measurement.specs.Natives.{natives};
@@ -20,14 +23,13 @@ ghost use Rattle.measurement.specs.Matrices.{side, ofBytes, isBytes};
 ghost use Rattle.measurement.specs.Measures.{nativeString};
 ghost use Rattle.natives.specs.Arrays.{at};
 ghost use Rattle.table.specs.Bytes.{tableLength, entry};
-ghost use Rattle.table.specs.Entries.{depth, Names, identity};
-ghost use Rattle.table.specs.Rules.{Down, Deep, Rule};
-ghost use Rattle.table.specs.Plans.{Nonzero};
+ghost use Rattle.table.specs.Entries.{Names};
+ghost use Rattle.table.specs.Rules.{Down};
 ghost use Rattle.table_check.specs.Answers.{Checked};
-ghost use Rattle.table_check.specs.Tests.{Decides, Readable, PackedIn, Low, Still, Quiet, Neighbours, Measured, Right, Ceiling, Stops};
+ghost use Rattle.table_check.specs.Tests.{Decides, Readable, Packs, PackedIn, gap, height, Low, Neighbours, Still, Calm, Measured, Rooted, Tested, Ceiling, Scanned, Least, HighAt, High, Blames, Blamed, Stops};
 
-// The greatest value that there is: as a limit it lets no entry pass
-const ANY: u32 = 4294967295;
+// The height of a string without an entry: above the depth of every value by two or more
+const GAP: u32 = 4194305;
 
 // What the check says of a table: that every index meets its rule, or the lowest index that breaks it.
 pub enum CheckAnswer {
@@ -38,9 +40,19 @@ pub enum CheckAnswer {
 
 // ---- where rotations lead
 
+// How high a string of the value v stands.
+fn height(v: u32) -> u32
+    ensures { λ r. ⌜ (r ≡ height v) × (r ≤ gap) ⌝ }
+{
+    if v == 0 {
+        return GAP;
+    }
+    v / 1024
+}
+
 // What p becomes by each of the first m strings of rs, in front of xs. The loop has no branch, for speed.
 fn neighbours(rs: &[u32; 540], m: usize, p: u32, xs: &mut [u32; 540])
-    requires { ⌜ (length (now xs) ≡ natives) × (p < 4 ^ qubits) × (m ≤ natives) × ((i : ℕ) → at (now rs) i < 4 ^ qubits) ⌝ }
+    requires { ⌜ (length (now xs) ≡ natives) × (p < 4 ^ qubits) × Packs qubits (now rs) m ⌝ }
     ensures { λ r. ⌜ Neighbours qubits p (now (rs .entry)) m (now (xs .exit)) ⌝ }
 {
     let mut i: usize = 0;
@@ -77,14 +89,17 @@ fn still(table: &[u8], xs: &[u32; 540], m: usize, limit: u32) -> bool
     true
 }
 
-// Whether no rotation leads from p to an entry up to the limit. xs is scratch.
-fn quiet(table: &[u8], rs: &[u32; 540], m: usize, p: u32, limit: u32, xs: &mut [u32; 540]) -> bool
-    requires { ⌜ (length (now xs) ≡ natives) × (p < 4 ^ qubits) × (m ≤ natives) × ((i : ℕ) → at (now rs) i < 4 ^ qubits) ⌝ }
-    requires { ⌜ length (now table) ≡ tableLength qubits ⌝ }
-    ensures { λ r. ⌜ ((f : ℕ → ℕ) → PackedIn qubits f (now (rs .entry)) m → Decides r (Quiet qubits f (entry (now (table .entry))) p limit)) × (length (now (xs .exit)) ≡ natives) ⌝ }
+// Whether no rotation leads from p two or more below h, which is to say to an entry up to this limit. xs is scratch.
+fn calm(table: &[u8], rs: &[u32; 540], m: usize, p: u32, h: u32, xs: &mut [u32; 540]) -> bool
+    requires { ⌜ (length (now xs) ≡ natives) × (p < 4 ^ qubits) × Packs qubits (now rs) m ⌝ }
+    requires { ⌜ (length (now table) ≡ tableLength qubits) × (h ≤ gap) ⌝ }
+    ensures { λ r. ⌜ ((f : ℕ → ℕ) → PackedIn qubits f (now (rs .entry)) m → Decides r (Calm qubits f (entry (now (table .entry))) p h)) × (length (now (xs .exit)) ≡ natives) ⌝ }
 {
+    if h < 2 {
+        return true;
+    }
     neighbours(rs, m, p, xs);
-    still(table, xs, m, limit)
+    still(table, xs, m, 1024 * (h - 2) + 1023)
 }
 
 // ---- one index
@@ -134,60 +149,45 @@ fn is_made(table: &[u8], strings: &[u32], kept: &[bool; 540], p: u32, v: u32) ->
     leads_down(table, strings, kept, p, v, (field - 1) as usize)
 }
 
-// The greatest value whose depth is less than that of v by two or more, or 0 where there is none.
-fn shorter(v: u32) -> u32
-    requires { ⌜ 1024 ≤ v ⌝ }
-    ensures { λ r. ⌜ r ≡ 1024 * (depth v - 1) - 1 ⌝ }
+// Whether the value v of p is 0, or names the native of string p, or a rotation that leads one step down.
+fn is_rooted(table: &[u8], strings: &[u32], kept: &[bool; 540], p: u32, v: u32) -> bool
+    requires { ⌜ Readable qubits (now table) (now strings) (now kept) × (p < 4 ^ qubits) ⌝ }
+    requires { ⌜ v ≡ entry (now table) p ⌝ }
+    ensures { λ r. ⌜ Decides r (Rooted qubits (at (now (strings .entry))) (entry (now (table .entry))) p) ⌝ }
 {
-    if v < 2048 {
-        return 0;
+    if v == 0 {
+        return true;
     }
-    1024 * (v / 1024 - 1) - 1
+    if v < 1024 {
+        return is_base(strings, p, v);
+    }
+    is_made(table, strings, kept, p, v)
 }
 
-// Whether p, which is no native, has the value v rightly: a rotation leads one step down, and none leads further.
-fn is_deep(
-    table: &[u8],
-    strings: &[u32],
-    kept: &[bool; 540],
-    rs: &[u32; 540],
-    m: usize,
-    p: u32,
-    v: u32,
-    xs: &mut [u32; 540],
-) -> bool
-    requires { ⌜ (length (now xs) ≡ natives) × Readable qubits (now table) (now strings) (now kept) × PackedIn qubits (at (now strings)) (now rs) m ⌝ }
-    requires { ⌜ (p < 4 ^ qubits) × (v ≡ entry (now table) p) × (1024 ≤ v) ⌝ }
-    ensures { λ r. ⌜ Decides r (Deep qubits (at (now (strings .entry))) (entry (now (table .entry))) p) × (length (now (xs .exit)) ≡ natives) ⌝ }
-{
-    if !is_made(table, strings, kept, p, v) {
-        return false;
-    }
-    quiet(table, rs, m, p, shorter(v), xs)
-}
-
-// Whether index p meets its rule, where a native's value is known to be right.
+// Whether index p has such a value and, if it stands above top, no rotation leads from it two or more down.
 fn meets(
     table: &[u8],
     strings: &[u32],
     kept: &[bool; 540],
     rs: &[u32; 540],
     m: usize,
+    top: u32,
     p: u32,
     xs: &mut [u32; 540],
 ) -> bool
     requires { ⌜ (length (now xs) ≡ natives) × Readable qubits (now table) (now strings) (now kept) × PackedIn qubits (at (now strings)) (now rs) m ⌝ }
-    requires { ⌜ Nonzero qubits p × Right (at (now strings)) (entry (now table)) p ⌝ }
-    ensures { λ r. ⌜ Decides r (Rule qubits (at (now (strings .entry))) (entry (now (table .entry))) p) × (length (now (xs .exit)) ≡ natives) ⌝ }
+    requires { ⌜ p < 4 ^ qubits ⌝ }
+    ensures { λ r. ⌜ Decides r (Tested qubits (at (now (strings .entry))) (entry (now (table .entry))) top p) × (length (now (xs .exit)) ≡ natives) ⌝ }
 {
     let v = table::entry_unchecked(table, p);
-    if v == 0 {
-        return quiet(table, rs, m, p, ANY, xs);
+    if !is_rooted(table, strings, kept, p, v) {
+        return false;
     }
-    if v < 1024 {
-        return is_base(strings, p, v);
+    let h = height(v);
+    if h <= top {
+        return true;
     }
-    is_deep(table, strings, kept, rs, m, p, v, xs)
+    calm(table, rs, m, p, h, xs)
 }
 
 // ---- all indices
@@ -228,23 +228,24 @@ fn ceiling(table: &[u8], strings: &[u32], kept: &[bool; 540]) -> u32
     end
 }
 
-// The lowest index that breaks its rule, or 4^12 where none does. Index 0 is known to meet it, and end is the ceiling.
+// The lowest nonzero index that fails these tests, or end, which is the ceiling.
 fn scan(
     table: &[u8],
     strings: &[u32],
     kept: &[bool; 540],
     rs: &[u32; 540],
     m: usize,
+    top: u32,
     end: u32,
 ) -> u32
     requires { ⌜ Readable qubits (now table) (now strings) (now kept) × PackedIn qubits (at (now strings)) (now rs) m ⌝ }
-    requires { ⌜ (entry (now table) 0 ≡ identity) × Ceiling qubits (at (now strings)) (entry (now table)) natives end ⌝ }
-    ensures { λ r. ⌜ Stops qubits (at (now (strings .entry))) (entry (now (table .entry))) r ⌝ }
+    requires { ⌜ Ceiling qubits (at (now strings)) (entry (now table)) natives end ⌝ }
+    ensures { λ r. ⌜ Scanned qubits (at (now (strings .entry))) (entry (now (table .entry))) top r ⌝ }
 {
     let mut xs = [0u32; 540];
     let mut p: u32 = 1;
     while p < end {
-        if !meets(table, strings, kept, rs, m, p, &mut xs) {
+        if !meets(table, strings, kept, rs, m, top, p, &mut xs) {
             return p;
         }
         p += 1;
@@ -252,7 +253,128 @@ fn scan(
     end
 }
 
-// The same of the whole table.
+// ---- from low strings
+
+// The string x, if it stands two or more above h and is below end; else end. The rarer comes first, for speed.
+fn sink_at(table: &[u8], x: u32, h: u32, end: u32) -> u32
+    requires { ⌜ (length (now table) ≡ tableLength qubits) × (x < 4 ^ qubits) × (h ≤ gap) ⌝ }
+    ensures { λ r. ⌜ Least (HighAt (entry (now (table .entry))) h x) end r ⌝ }
+{
+    if height(table::entry_unchecked(table, x)) < h + 2 {
+        return end;
+    }
+    if end <= x {
+        return end;
+    }
+    x
+}
+
+// The lowest of the first m strings of xs that stands two or more above h, or end.
+fn sink_of(table: &[u8], xs: &[u32; 540], m: usize, h: u32, end: u32) -> u32
+    requires { ⌜ (length (now table) ≡ tableLength qubits) × (m ≤ natives) × ((i : ℕ) → i < m → at (now xs) i < 4 ^ qubits) × (h ≤ gap) ⌝ }
+    ensures { λ r. ⌜ Least (High (entry (now (table .entry))) h (now (xs .entry)) m) end r ⌝ }
+{
+    let mut r = end;
+    let mut i: usize = 0;
+    while i < m {
+        r = sink_at(table, xs[i], h, r);
+        i += 1;
+    }
+    r
+}
+
+// The lowest string to which a rotation leads from x two or more up, or end; end where such a string stands above top
+// anyway. xs is scratch.
+fn sink_from(
+    table: &[u8],
+    rs: &[u32; 540],
+    m: usize,
+    top: u32,
+    x: u32,
+    end: u32,
+    xs: &mut [u32; 540],
+) -> u32
+    requires { ⌜ (length (now xs) ≡ natives) × (x < 4 ^ qubits) × Packs qubits (now rs) m ⌝ }
+    requires { ⌜ length (now table) ≡ tableLength qubits ⌝ }
+    ensures { λ r. ⌜ ((f : ℕ → ℕ) → PackedIn qubits f (now (rs .entry)) m → Least (Blames qubits f (entry (now (table .entry))) top x) end r) × (length (now (xs .exit)) ≡ natives) ⌝ }
+{
+    let h = height(table::entry_unchecked(table, x));
+    if top < h + 2 {
+        return end;
+    }
+    neighbours(rs, m, x, xs);
+    sink_of(table, xs, m, h, end)
+}
+
+// The lowest such string of all nonzero x, or end.
+fn sink(table: &[u8], rs: &[u32; 540], m: usize, top: u32, end: u32) -> u32
+    requires { ⌜ (length (now table) ≡ tableLength qubits) × Packs qubits (now rs) m ⌝ }
+    ensures { λ r. ⌜ ((f : ℕ → ℕ) → PackedIn qubits f (now (rs .entry)) m → Least (Blamed qubits f (entry (now (table .entry))) top (4 ^ qubits)) end r) ⌝ }
+{
+    let mut xs = [0u32; 540];
+    let mut r = end;
+    let mut x: u32 = 1;
+    while x < STRINGS {
+        r = sink_from(table, rs, m, top, x, r, &mut xs);
+        x += 1;
+    }
+    r
+}
+
+// ---- how high the top is
+
+// 1 for a height from which the rotations are followed.
+fn followed(h: u32, top: u32) -> u32
+    requires { ⌜ h ≤ gap ⌝ }
+    ensures { λ r. ⌜ r ≤ 1 ⌝ }
+{
+    if top < h {
+        return 1;
+    }
+    if h + 2 <= top {
+        return 1;
+    }
+    0
+}
+
+// How many strings these are.
+fn work(table: &[u8], top: u32) -> u32
+    requires { ⌜ length (now table) ≡ tableLength qubits ⌝ }
+{
+    let mut n: u32 = 0;
+    let mut p: u32 = 0;
+    while p < STRINGS {
+        n += followed(height(table::entry_unchecked(table, p)), top);
+        p += 1;
+    }
+    n
+}
+
+// A top with little work: the lowest that the next does not better, or, where few strings have entries, above all. The
+// steps are bounded, since damaged bytes may ask for thousands.
+fn best_top(table: &[u8]) -> u32
+    requires { ⌜ length (now table) ≡ tableLength qubits ⌝ }
+{
+    let mut top: u32 = 1;
+    let mut least = work(table, 1);
+    let mut next = work(table, 2);
+    while next < least {
+        if top == 64 {
+            return top;
+        }
+        top += 1;
+        least = next;
+        next = work(table, top + 1);
+    }
+    if work(table, GAP) < least {
+        return GAP;
+    }
+    top
+}
+
+// ---- the whole table
+
+// The lowest index that breaks its rule, or 4^12 where none does.
 fn lowest(table: &[u8], strings: &[u32], kept: &[bool; 540]) -> u32
     requires { ⌜ Readable qubits (now table) (now strings) (now kept) ⌝ }
     ensures { λ r. ⌜ Stops qubits (at (now (strings .entry))) (entry (now (table .entry))) r ⌝ }
@@ -263,8 +385,17 @@ fn lowest(table: &[u8], strings: &[u32], kept: &[bool; 540]) -> u32
     let mut rs = [0u32; 540];
     let mut ns = [0u32; 540];
     let m = rotations::pack_unchecked(strings, kept, &mut rs, &mut ns);
-    let end = ceiling(table, strings, kept);
-    scan(table, strings, kept, &rs, m, end)
+    let top = best_top(table);
+    let end = scan(
+        table,
+        strings,
+        kept,
+        &rs,
+        m,
+        top,
+        ceiling(table, strings, kept),
+    );
+    sink(table, &rs, m, top, end)
 }
 
 // The same by the natives of the pair.

@@ -1,70 +1,67 @@
--- `table_check::meets` meets its contract: the value read tells which of the rule's sentences is for p. Assumes nothing.
+-- `table_check::meets` meets its contract: the rotations are followed from p where its height is above top. Assumes nothing.
 use borrow.Author.Needs.{needs}
-use mathlib.Core.Path.{sym, subst, _∙_}
-use Prim.Native.Nat.{ℕ, _≤_, _<_}
+use borrow.Author.Tests.{not-true, not-false}
+use mathlib.Core.Path.{_≡_, ap, subst, _∙_}
+use Prim.Native.Nat.{ℕ, _<_}
+use native.Mathlib.Omega.{arith}
 use Rattle.pauli_string.specs.Strings.{qubits}
 use Rattle.natives.specs.Arrays.{at}
 use Rattle.table.specs.Bytes.{entry}
-use Rattle.table.proofs.Bytes.{entry-lt}
-use Rattle.table_check.specs.Tests.{Decides, Measured}
-use Rattle.table_check.proofs.Decides.{decides-same}
-use Rattle.table_check.proofs.Index.{gap-rule, base-rule, deep-rule}
+use Rattle.table_check.specs.Tests.{Decides, height, Calm}
+use Rattle.table_check.proofs.Decides.{decides-yes, decides-no, decides-same}
+use Rattle.table_check.proofs.Index.{packs}
 use Rattle.table_check.proofs.meets.Statement.{statement}
 use Rattle.table_check.proofs.meets.Tie as tie
+
+-- the height that is compared is that of p
+read : (c : tie.After-height) → c .height .result ≡ height (entry (c .before .before .before .before .before .before .args .table .now) (c .before .before .before .before .before .before .args .p))
+read c = c .height .ensures .0 ∙ ap height (c .before .before .before .entry-unchecked .ensures)
 
 entry-unchecked-requires : tie.Need-entry-unchecked-requires
 entry-unchecked-requires c κs = search needs
 
-quiet-requires : tie.Need-quiet-requires
-quiet-requires c κs = search needs
+is-rooted-requires : tie.Need-is-rooted-requires
+is-rooted-requires c κs = search needs
 
 returns : tie.Need-returns
 returns c =
-    let i = c .before .before in
-    let v = i .before in
-    let k = v .before .before in
-    let s = k .before in
-    let a = s .args in
-    let f = at (a .strings .now) in
-    let e = entry (a .table .now) in (
-      decides-same (c .quiet .result)
-          (gap-rule qubits f e (a .p) (s .pre .1 .0 .some) (s .pre .1 .1) (entry-lt (a .table .now) (λ j. k .shared-slice-known .given j .fits)) (sym (v .entry-unchecked .ensures) ∙ i .if1 .taken))
-          (c .quiet .ensures .0 f (s .pre .0 .2)),
-      c .quiet .ensures .1,
-    )
+    let r = c .before .is-rooted in
+    (λ t. decides-no (not-true (r .result) (c .if1 .taken)) (r .ensures) (t .rooted), c .before .before .before .before .before .pre .0 .0)
 
-is-base-requires : tie.Need-is-base-requires
-is-base-requires c κs = search needs
+height-requires : tie.Need-height-requires
+height-requires c κs = search needs
 
 returns-2 : tie.Need-returns-2
 returns-2 c =
     let i = c .before .before in
-    let v = i .before in
-    let s = v .before .before .before in
-    let a = s .args in
-    let f = at (a .strings .now) in
-    let e = entry (a .table .now) in
-    let z = v .entry-unchecked .ensures in
-    let r = c .is-base .result in (
-      decides-same r
-          (base-rule qubits f e (a .p) (s .pre .1 .0 .some) (s .pre .1 .1) (λ w. i .if1 .left (z ∙ w)) (subst (λ (w : ℕ). w < 1024) z (c .before .if2 .taken)))
-          (subst (λ (w : ℕ). Decides r (Measured f (a .p) w)) z (c .is-base .ensures)),
-      s .pre .0 .0,
+    let r = i .before .is-rooted in (
+      record {
+        rooted = decides-yes (not-false (r .result) (i .if1 .left)) (r .ensures);
+        steady = λ l. absurd (omega (arith, read (c .before), c .if2 .taken));
+      },
+      i .before .before .before .before .before .pre .0 .0,
     )
 
-is-deep-requires : tie.Need-is-deep-requires
-is-deep-requires c κs = search needs
+calm-requires : tie.Need-calm-requires
+calm-requires c κs =
+    let s = c .before .before .before .before .before .before .before .before in
+    let a = s .args in
+    ((s .pre .0 .0, s .pre .1, packs qubits (at (a .strings .now)) (a .rs .now) (a .m) (s .pre .0 .2)), (s .pre .0 .1 .table-long, c .before .before .height .ensures .1))
 
 returns-3 : tie.Need-returns-3
 returns-3 c =
-    let i = c .before .before in
-    let v = i .before .before in
-    let s = v .before .before .before in
-    let a = s .args in (
-      decides-same (c .is-deep .result)
-          (deep-rule qubits (at (a .strings .now)) (entry (a .table .now)) (a .p) (s .pre .1 .0 .some) (s .pre .1 .1) (subst (λ (w : ℕ). 1024 ≤ w) (v .entry-unchecked .ensures) (i .if2 .left)))
-          (c .is-deep .ensures .0),
-      c .is-deep .ensures .1,
+    let h = c .before .before .before in
+    let i = h .before in
+    let r = i .before .is-rooted in
+    let s = i .before .before .before .before .before in
+    let a = s .args in
+    let f = at (a .strings .now) in
+    let e = entry (a .table .now) in
+    let l : a .top < height (e (a .p)) = omega (arith, read h, c .before .before .if2 .left) in (
+      decides-same (c .calm .result)
+          (λ k. record { rooted = decides-yes (not-false (r .result) (i .if1 .left)) (r .ensures); steady = λ _. k }, λ t. t .steady l)
+          (subst (λ (n : ℕ). Decides (c .calm .result) (Calm qubits f e (a .p) n)) (read h) (c .calm .ensures .0 f (s .pre .0 .2))),
+      c .calm .ensures .1,
     )
 
 pub meets-spec : {M : Type 1} → statement M
@@ -72,9 +69,9 @@ meets-spec =
     tie.close
     (tie.spec
     entry-unchecked-requires
-    quiet-requires
+    is-rooted-requires
     returns
-    is-base-requires
+    height-requires
     returns-2
-    is-deep-requires
+    calm-requires
     returns-3)

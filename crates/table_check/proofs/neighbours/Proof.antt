@@ -28,7 +28,7 @@ conjugate-with-unchecked-requires : tie.Need-conjugate-with-unchecked-requires I
 conjugate-with-unchecked-requires c κs =
     let l = c .before .before in
     let s = l .before in
-    (s .pre .1, s .pre .3 (l .loop .i))
+    (s .pre .1, s .pre .2 .small (l .loop .i))
 
 mul-xs : tie.Need-mul-xs Inv-loop μ-loop
 mul-xs c = search needs

@@ -1,4 +1,4 @@
--- `table_check::scan` meets its contract: every index passed meets its rule; the first that does not is answered, or else the ceiling.
+-- `table_check::scan` meets its contract: every nonzero index passed meets its tests; the first that does not is answered, or else the ceiling.
 -- Assumes nothing.
 use borrow.Author.Needs.{needs}
 use borrow.Author.Count.{below-more}
@@ -11,52 +11,47 @@ use Rattle.pauli_string.specs.Strings.{qubits}
 use Rattle.native_measurement.specs.Natives.{natives}
 use Rattle.natives.specs.Arrays.{at}
 use Rattle.table.specs.Bytes.{entry}
-use Rattle.table.specs.Rules.{Rule}
+use Rattle.table.proofs.Bytes.{entry-lt}
+use Rattle.table_check.specs.Tests.{Tested}
 use Rattle.table_check.proofs.Decides.{decides-yes, decides-no}
-use Rattle.table_check.proofs.Stops.{below-right, ceiling-positive, ceiling-stops, first-meets}
+use Rattle.table_check.proofs.Stops.{ceiling-positive, ceiling-scanned, fails-scanned}
 use Rattle.table_check.proofs.scan.Statement.{statement}
 use Rattle.table_check.proofs.scan.Tie as tie
 
 abbrev Inv-loop : tie.InvT-loop
-Inv-loop table strings kept rs m end xs₀ p₀ xs p =
-    (1 ≤ p) × (p ≤ end) × (length xs ≡ natives) × ((j : ℕ) → j < p → Rule qubits (at strings) (entry table) j)
+Inv-loop table strings kept rs m top end xs₀ p₀ xs p =
+    (1 ≤ p) × (p ≤ end) × (length xs ≡ natives) × ((j : ℕ) → j < p → (j ≡ 0 → ⊥) → Tested qubits (at strings) (entry table) top j)
 
 abbrev μ-loop : tie.MeasureT-loop
-μ-loop table strings kept rs m end xs₀ p₀ xs p = end - p
+μ-loop table strings kept rs m top end xs₀ p₀ xs p = end - p
 
 loop-holds : tie.Need-loop-holds Inv-loop μ-loop
 loop-holds c =
     let s = c .before .before in
     let a = s .args in
-    let f = at (a .strings .now) in
-    let e = entry (a .table .now) in
-    (omega arith, ceiling-positive qubits f e (a .end) (s .pre .1 .1), length-replicate {A = ℕ} natives 0, first-meets qubits f e (s .pre .1 .0))
+    (omega arith, ceiling-positive qubits (at (a .strings .now)) (entry (a .table .now)) (a .end) (s .pre .1), length-replicate {A = ℕ} natives 0, λ j l some. absurd (some (omega arith)))
 
 meets-requires : tie.Need-meets-requires Inv-loop μ-loop
 meets-requires c κs =
     let i = c .before in
     let l = i .before in
     let s = l .before .before .before in
-    let a = s .args in
-    let some : l .loop .p ≡ 0 → ⊥ = λ z. omega (arith, l .loop .inv .0) in (
-      (l .loop .inv .2, s .pre .0 .0, s .pre .0 .1),
-      (
-        record { below = omega (arith, i .loop-test .taken, s .pre .1 .1 .within); some = some },
-        below-right qubits (at (a .strings .now)) (entry (a .table .now)) (a .end) (s .pre .1 .1) (l .loop .p) some (i .loop-test .taken),
-      ),
-    )
+    ((l .loop .inv .2, s .pre .0 .0, s .pre .0 .1), omega (arith, i .loop-test .taken, s .pre .1 .within))
 
 returns : tie.Need-returns Inv-loop μ-loop
 returns c =
     let m = c .before .meets in
     let i = c .before .before .before in
     let l = i .before in
-    let s = l .before .before .before in
-    record {
-      within = omega (arith, i .loop-test .taken, s .pre .1 .1 .within);
-      meets = l .loop .inv .3;
-      breaks = λ _. decides-no (not-true (m .result) (c .if1 .taken)) (m .ensures .0);
-    }
+    let k = l .before .before in
+    let s = k .before in
+    let a = s .args in
+    fails-scanned qubits (at (a .strings .now)) (entry (a .table .now)) (a .end) (s .pre .1) (a .top) (l .loop .p)
+    (entry-lt (a .table .now) (λ j. k .shared-slice-known .given j .fits))
+    (λ z. omega (arith, l .loop .inv .0))
+    (i .loop-test .taken)
+    (λ j some g. l .loop .inv .3 j g some)
+    (decides-no {A = Tested qubits (at (a .strings .now)) (entry (a .table .now)) (a .top) (l .loop .p)} (not-true (m .result) (c .if1 .taken)) (m .ensures .0))
 
 add-p : tie.Need-add-p Inv-loop μ-loop
 add-p c = search needs
@@ -69,11 +64,12 @@ loop-again c =
     let m = c .before .meets in
     let i = c .before .before .before in
     let l = i .before in
-    let a = l .before .before .before .args in (
+    let a = l .before .before .before .args in
+    let T = Tested qubits (at (a .strings .now)) (entry (a .table .now)) (a .top) in (
       omega arith,
       omega (arith, i .loop-test .taken),
       m .ensures .1,
-      below-more (λ (j : ℕ). Rule qubits (at (a .strings .now)) (entry (a .table .now)) j) (l .loop .p) (l .loop .inv .3) (decides-yes (not-false (m .result) (c .if1 .left)) (m .ensures .0)),
+      below-more (λ (j : ℕ). (j ≡ 0 → ⊥) → T j) (l .loop .p) (l .loop .inv .3) (λ _. decides-yes {A = T (l .loop .p)} (not-false (m .result) (c .if1 .left)) (m .ensures .0)),
     )
 
 returns-2 : tie.Need-returns-2 Inv-loop μ-loop
@@ -81,7 +77,7 @@ returns-2 c =
     let l = c .before in
     let s = l .before .before .before in
     let a = s .args in
-    ceiling-stops qubits (at (a .strings .now)) (entry (a .table .now)) (a .end) (s .pre .1 .1) (λ p g. l .loop .inv .3 p (omega (arith, c .loop-test .left)))
+    ceiling-scanned qubits (at (a .strings .now)) (entry (a .table .now)) (a .end) (s .pre .1) (a .top) (λ p some g. l .loop .inv .3 p (omega (arith, c .loop-test .left)) some)
 
 pub scan-spec : {M : Type 1} → statement M
 scan-spec =
