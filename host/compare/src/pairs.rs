@@ -29,6 +29,26 @@ pub const PLAN_PAIR: Pair = {
     Pair { mx, my: IDENTITY }
 };
 
+/// A pair that mixes the first k qubits of either six with one another and leaves the others: its
+/// table has 4^2k entries.
+pub fn chained(k: usize) -> Pair {
+    Pair {
+        mx: beside_diagonal(k, true, false),
+        my: beside_diagonal(k, false, true),
+    }
+}
+
+/// The identity, with ones right above and right below the diagonal, as is said, of the first k
+/// rows and columns.
+pub fn beside_diagonal(k: usize, above: bool, below: bool) -> Matrix {
+    let mut m = IDENTITY;
+    for i in 1..k {
+        m[7 * i - 6] = above.into();
+        m[7 * i - 1] = below.into();
+    }
+    m
+}
+
 /// A pair as a person would give it to the command.
 pub fn named(pair: &Pair) -> String {
     format!("--mx {} --my {}", digits(&pair.mx), digits(&pair.my))

@@ -1,4 +1,4 @@
-//! What is timed, each in a child process.
+//! What is timed beside the original, each in a child process.
 
 use std::collections::HashMap;
 use std::hint::black_box;
@@ -9,14 +9,16 @@ use bicycle_cliffords::native_measurement::NativeMeasurement;
 use bicycle_cliffords::pauli_string::PauliString;
 use compare::model::{STRINGS, blank_pivot, has_pivot};
 use compare::original::{self, Unpatched};
-use compare::pairs::PLAN_PAIR;
+use compare::pairs::{PLAN_PAIR, random_pair};
 use compare::rng::Rng;
 
 use crate::clock::{peak_memory, round, timed};
+use crate::inner;
 
-/// How many calls a round has, most often: enough for a second, because the kernel counts in steps
-/// of milliseconds.
-const CALLS: usize = 1_000_000;
+/// How many lookups a round has.
+const LOOKUPS: usize = 1_000_000;
+/// How many calls without a table a round has, most often.
+const CALLS: usize = 200_000;
 
 fn pair(code: &str) -> Pair {
     code.parse::<Code>().expect("a code").pair()
@@ -25,11 +27,10 @@ fn pair(code: &str) -> Pair {
 /// Our build, from nothing, and the check of its table.
 pub fn ours(code: &str) {
     let pair = pair(code);
-    let table = timed("build", || built(&pair));
-    peak_memory();
-    timed("check", || {
-        black_box(ffi::check(&table, &pair.mx, &pair.my))
-    });
+    let table = timed("ours-build", || built(&pair));
+    peak_memory("ours-memory");
+    let checked = timed("ours-check", || ffi::check(&table, &pair.mx, &pair.my));
+    assert_eq!(checked.accepted, 1);
 }
 
 fn built(pair: &Pair) -> Vec<u8> {
@@ -44,70 +45,103 @@ pub fn original(code: &str) {
 }
 
 fn built_by_original(pair: &Pair) -> Unpatched {
-    let builder = timed("build", || original::built::<Unpatched>(pair));
-    peak_memory();
+    let builder = timed("original-build", || original::built::<Unpatched>(pair));
+    peak_memory("original-memory");
     builder
 }
 
 /// The original's build, and then lookups of pseudo-random strings, ours and the original's in
 /// turn.
 pub fn lookups(code: &str, rounds: usize) {
-    let pair = pair(code);
-    let original = built_by_original(&pair)
+    let original = built_by_original(&pair(code))
         .complete()
         .expect("the table is complete");
+    look_up(code, rounds, |exact, blank| {
+        round("original-exact", exact, |p| {
+            original.implementation(PauliString(p))
+        });
+        round("original-free", blank, |p| {
+            original.min_data(PauliString(p))
+        });
+    });
+}
+
+/// Our lookups alone.
+pub fn our_lookups(code: &str, rounds: usize) {
+    look_up(code, rounds, |_, _| ());
+}
+
+fn look_up(code: &str, rounds: usize, theirs: impl Fn(&[u32], &[u32])) {
+    let pair = pair(code);
     let table = built(&pair);
     let (mx, my) = (&pair.mx, &pair.my);
     let mut rng = Rng::new(10);
     let mut string = || 1 + rng.below(u64::from(STRINGS) - 1) as u32;
-    let exact: Vec<u32> = (0..CALLS).map(|_| string()).collect();
+    let exact: Vec<u32> = (0..LOOKUPS).map(|_| string()).collect();
     let blank: Vec<u32> = exact.iter().map(|&p| blank_pivot(p)).collect();
     let mut out = [0; 32];
     for _ in 0..rounds {
-        round("exact-ours", &exact, |p| {
+        round("ours-exact", &exact, |p| {
             ffi::implementation(&table, mx, my, p, &mut out)
         });
-        round("exact", &exact, |p| original.implementation(PauliString(p)));
-        round("free-ours", &blank, |p| {
+        round("ours-free", &blank, |p| {
             ffi::min_data(&table, mx, my, p, &mut out)
         });
-        round("free", &blank, |p| original.min_data(PauliString(p)));
+        theirs(&exact, &blank);
     }
 }
 
-/// Calls that need no table, ours and the original's in turn.
-pub fn calls(code: &str, rounds: usize) {
+fn numbers() -> Vec<u32> {
+    (0..NATIVES).cycle().take(CALLS).collect()
+}
+
+/// Calls that need a pair and no table, ours and the original's in turn.
+pub fn of_pair(code: &str, rounds: usize) {
     let pair = pair(code);
-    let (mx, my) = (&pair.mx, &pair.my);
-    let code = original::code(&pair);
-    let all = NativeMeasurement::all();
+    let (mx, my, code) = (&pair.mx, &pair.my, original::code(&pair));
+    let (all, numbers) = (NativeMeasurement::all(), numbers());
     let native = |n: u32| &all[n as usize];
-    let natives: Vec<u32> = (0..NATIVES).cycle().take(CALLS).collect();
-    let more: Vec<u32> = (0..NATIVES).cycle().take(10 * CALLS).collect();
     let pivotal = |n: &u32| has_pivot(ffi::measures(mx, my, *n).value);
-    let rotations: Vec<u32> = natives.iter().copied().filter(pivotal).collect();
-    let (one, most) = (plan(1), plan(256));
-    let mut out = vec![0; 32_768];
+    let rotations: Vec<u32> = numbers.iter().copied().filter(pivotal).collect();
+    let mut out = [0; 64];
     for _ in 0..rounds {
-        round("measures-ours", &natives, |n| ffi::measures(mx, my, n));
-        round("measures", &natives, |n| code.measures(native(n)));
-        round("map", &[0; 2_000], |_| {
+        round("ours-measures", &numbers, |n| ffi::measures(mx, my, n));
+        round("original-measures", &numbers, |n| code.measures(native(n)));
+        inner::timed_in_turn("ours", &[pair], &numbers);
+        round("original-natives", &[0; 1_000], |_| {
             let natives = NativeMeasurement::all().into_iter();
             let measured = natives.map(|native| (code.measures(&native), native));
             measured.collect::<HashMap<_, _>>()
         });
-        round("native-ours", &more, |n| {
-            ffi::native_instructions(n, &mut out)
-        });
-        round("native", &more, |n| original::native_text(native(n)));
-        round("rotation-ours", &rotations, |n| {
+        round("ours-rotation", &rotations, |n| {
             ffi::rotation_instructions(mx, my, n, &mut out)
         });
-        round("rotation", &rotations, |n| {
+        round("original-rotation", &rotations, |n| {
             original::rotation_text(*native(n), code.measures(native(n)))
         });
-        round("list-1", &[0; 400_000], |_| ffi::list(&one, &mut out));
-        round("list-256", &[0; 20_000], |_| ffi::list(&most, &mut out));
+    }
+}
+
+/// Calls that need neither pair nor table, and the natives of many pairs in turn, which no branch
+/// predictor learns.
+pub fn of_none(rounds: usize) {
+    let (all, numbers) = (NativeMeasurement::all(), numbers());
+    let mut rng = Rng::new(540);
+    let pairs: Vec<Pair> = (0..1_000).map(|_| random_pair(&mut rng)).collect();
+    let (one, most) = (plan(1), plan(256));
+    let mut out = vec![0; 32_768];
+    for _ in 0..rounds {
+        inner::timed_in_turn("many", &pairs, &numbers);
+        round("ours-native", &numbers, |n| {
+            ffi::native_instructions(n, &mut out)
+        });
+        round("original-native", &numbers, |n| {
+            original::native_text(&all[n as usize])
+        });
+        round("list-1", &numbers, |_| ffi::list(&one, &mut out));
+        round("list-256", &numbers[..CALLS / 20], |_| {
+            ffi::list(&most, &mut out)
+        });
     }
 }
 

@@ -1,134 +1,83 @@
-//! What the child processes said, and the tables of it.
+//! Markdown tables: a row for each thing, and for each column its best and its median.
 
-use std::collections::BTreeMap;
-use std::process::Command;
+use crate::said::{Said, Summary};
 
-use bicycle::Code;
+/// What a row shows of the numbers that the children said, by name.
+pub enum Shown {
+    Measured(String),
+    /// The first by the second.
+    Ratio(String, String),
+    /// The bytes that pass in a time.
+    Rate(String, usize),
+}
 
-/// Numbers by name, one for each round.
-#[derive(Default)]
-pub struct Said(BTreeMap<String, Vec<f64>>);
+pub struct Row {
+    what: String,
+    shown: Shown,
+}
 
-/// What, and the names of ours and of the original's times.
-#[rustfmt::skip]
-const ROWS: [(&str, &str, &str); 12] = [
-    ("build of gross", "gross-ours-build", "gross-original-build"),
-    ("build of two-gross", "two-gross-ours-build", "two-gross-original-build"),
-    ("check of gross, accepting", "gross-ours-check", ""),
-    ("check of two-gross, accepting", "two-gross-ours-check", ""),
-    ("exact lookup in gross, random strings", "gross-original-exact-ours", "gross-original-exact"),
-    ("pivot-free lookup, the same", "gross-original-free-ours", "gross-original-free"),
-    ("string of one native of gross", "measures-ours", "measures"),
-    ("map of all natives of gross", "", "map"),
-    ("expansion of a native, as text", "native-ours", "native"),
-    ("expansion of a rotation, as text", "rotation-ours", "rotation"),
-    ("listing of a plan with one rotation", "list-1", ""),
-    ("listing of a plan with 256 rotations", "list-256", ""),
-];
-
-impl Said {
-    /// Runs this program as a child, and takes down what it says.
-    pub fn child(&mut self, words: &[&str], prefix: &str) {
-        eprintln!("bench: {}", words.join(" "));
-        let program = std::env::current_exe().expect("this program's file");
-        let output = Command::new(program)
-            .args(words)
-            .output()
-            .expect("this program runs");
-        assert!(
-            output.status.success(),
-            "{}",
-            String::from_utf8_lossy(&output.stderr)
-        );
-        for line in String::from_utf8_lossy(&output.stdout).lines() {
-            eprintln!("  {line}");
-            let (name, number) = line.split_once(' ').expect("a name and a number");
-            let series = self.0.entry(format!("{prefix}{name}")).or_default();
-            series.push(number.parse().expect("a number"));
-        }
+impl Row {
+    pub fn new(what: impl Into<String>, shown: Shown) -> Row {
+        let what = what.into();
+        Row { what, shown }
     }
 
-    /// The rounds of a name, ascending.
-    fn rounds(&self, name: &str) -> Vec<f64> {
-        let mut rounds = self.0.get(name).cloned().unwrap_or_default();
-        rounds.sort_by(f64::total_cmp);
-        rounds
+    pub fn measured(what: impl Into<String>, name: impl Into<String>) -> Row {
+        Row::new(what, Shown::Measured(name.into()))
     }
 
-    pub fn print(&self) {
-        self.print_times();
-        self.print_memory();
-        Code::ALL.iter().for_each(|code| self.print_check(*code));
-        println!("{NOTE}");
-    }
-
-    fn print_times(&self) {
-        println!("| best, median | ours, CPU | wall | original, CPU | wall | rounds | ratio |");
-        println!("|---|---|---|---|---|---|---|");
-        for (what, ours, theirs) in ROWS {
-            let rounds = |name, clock| self.rounds(&format!("{name}-{clock}"));
-            let (our, their) = (rounds(ours, "cpu"), rounds(theirs, "cpu"));
-            let times = [&our, &rounds(ours, "wall"), &their, &rounds(theirs, "wall")];
-            let times = times.map(|rounds| best_and_median(rounds)).join(" | ");
-            let (count, ratio) = (
-                format!("{}, {}", our.len(), their.len()),
-                ratio(&their, &our),
-            );
-            println!("| {what} | {times} | {count} | {ratio} |");
-        }
-    }
-
-    fn print_memory(&self) {
-        println!("\n| peak memory, median | ours | original | ratio |\n|---|---|---|---|");
-        for code in Code::ALL {
-            let rounds = |whose| self.rounds(&format!("{code}-{whose}-memory"));
-            let (our, their) = (rounds("ours"), rounds("original"));
-            let mib = |rounds| median(rounds).map_or("-".into(), |m| format!("{m:.0} MiB"));
-            let (ours, theirs, ratio) = (mib(&our), mib(&their), ratio(&their, &our));
-            println!("| build of {code} | {ours} | {theirs} | {ratio} |");
-        }
-        println!();
-    }
-
-    fn print_check(&self, code: Code) {
-        let rounds = |name| self.rounds(&format!("{code}-{name}-cpu"));
-        let check = rounds("ours-check");
-        let ours = ratio(&check, &rounds("ours-build"));
-        let theirs = ratio(&rounds("original-build"), &check);
-        println!(
-            "A check of {code} takes {ours} of our build, the original's build {theirs} checks."
-        );
+    pub fn ratio(what: &str, over: impl Into<String>, under: impl Into<String>) -> Row {
+        Row::new(what, Shown::Ratio(over.into(), under.into()))
     }
 }
 
-const NOTE: &str = "\
-A ratio is the original's median CPU time by ours. CPU time is what the kernel counts for the
-thread (schedstat), peak memory what it says of a process with one build (VmHWM). The original's
-files are compiled unchanged, optimised, over stand-ins for its matrix library and for logging,
-which writes nothing. Our lookups form the natives from the pair in each call, where the original
-has them in its map.";
-
-fn median(ascending: &[f64]) -> Option<f64> {
-    let last = ascending.len().checked_sub(1)?;
-    Some((ascending[last / 2] + ascending[last.div_ceil(2)]) / 2.0)
+/// A table whose columns are the beginnings of names, and what stands above them.
+pub fn print(title: &str, columns: &[(&str, String)], said: &Said, rows: &[Row]) {
+    let heads = columns
+        .iter()
+        .map(|(head, _)| format!(" {head}best | {head}median |"));
+    println!("| {title} |{}", heads.collect::<String>());
+    println!("|---|{}", "---|---|".repeat(columns.len()));
+    for row in rows {
+        let cells = columns
+            .iter()
+            .map(|(_, prefix)| cells(row.shown.summary(said, prefix)));
+        println!("| {} |{}", row.what, cells.collect::<String>());
+    }
+    println!();
 }
 
-/// In a unit that suits.
-fn best_and_median(ascending: &[f64]) -> String {
-    let Some(median) = median(ascending) else {
-        return "-".into();
+impl Shown {
+    fn summary(&self, said: &Said, prefix: &str) -> Option<Summary> {
+        let summary = |name: &String| said.summary(&format!("{prefix}{name}"));
+        match self {
+            Shown::Measured(name) => summary(name),
+            Shown::Ratio(over, under) => Some(summary(over)?.by(&summary(under)?)),
+            Shown::Rate(name, bytes) => Some(summary(name)?.rate_of(*bytes)),
+        }
+    }
+}
+
+fn cells(summary: Option<Summary>) -> String {
+    let Some(Summary { best, median, unit }) = summary else {
+        return " - | - |".into();
     };
-    let best = ascending[0];
-    let (scale, unit) = if best < 0.01 {
-        (1e6, "µs")
-    } else {
-        (1.0, "s")
-    };
-    format!("{:.2}, {:.2} {unit}", scale * best, scale * median)
+    format!(" {} | {} |", number(best, &unit), number(median, &unit))
 }
 
-/// The ratio of two medians.
-fn ratio(a: &[f64], b: &[f64]) -> String {
-    let ratio = median(a).zip(median(b)).map(|(a, b)| a / b);
-    ratio.map_or("-".into(), |ratio| format!("{ratio:.2}"))
+/// A number in a multiple of its unit that suits, with three digits or more.
+pub fn number(value: f64, unit: &str) -> String {
+    let (scale, unit) = match unit {
+        "s" if value >= 1.0 => (1.0, " s"),
+        "s" if value >= 1e-3 => (1e-3, " ms"),
+        "s" if value >= 1e-7 => (1e-6, " µs"),
+        "s" => (1e-9, " ns"),
+        "B" if value >= 1_048_576.0 => (1_048_576.0, " MiB"),
+        "B" => (1024.0, " KiB"),
+        "B/s" => (1e9, " GB/s"),
+        _ => (1.0, ""),
+    };
+    let value = value / scale;
+    let places = if value < 1.0 { 3 } else { 2 };
+    format!("{value:.places$}{unit}")
 }
