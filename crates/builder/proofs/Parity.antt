@@ -1,4 +1,4 @@
--- Whether a number has an odd number of ones is told by its two halves, one laid over the other, and for numbers below 64 by one word. Assumes
+-- Whether a number has an odd number of ones is told by its two halves, one laid over the other, and at last by three digits. Assumes
 -- nothing.
 use mathlib.Core.Path.{_≡_, sym, ap, ap₂, _∙_}
 use Prim.Native.Nat.{ℕ, zero, suc, _+_, _/_, _%_, _^_, _<_}
@@ -7,7 +7,7 @@ use native.Mathlib.Omega.{arith}
 use lib.Bits.{differ, bitXor, xor-step, xor-mod}
 use lib.Count.{ones, ones-step, ones-cat}
 use lib.Dec.{eqb, eqb→eq}
-use lib.Pow.{pow-pos, mod-pow-add}
+use lib.Pow.{pow-pos, mod-pow-add, field, mod-mod-pow}
 use Rattle.bicycle_common.specs.Ranges.{allBelow}
 use Rattle.bicycle_common.proofs.Ranges.{all-below}
 use Rattle.bicycle_common.proofs.Tests.{bits, at-bit}
@@ -48,18 +48,40 @@ fold k n =
     ∙ sym (ones-xor k l h (mod-lt n (pow-pos k)) (mod-lt (n / 2 ^ k) (pow-pos k)))
     ∙ ap (λ (m : ℕ). ones m % 2) (sym (xor-mod n (n / 2 ^ k) k))
 
--- ---- numbers below 64
+-- ---- the last three digits
 
-parities : (n : ℕ) → n < 64 → 7608434000728254870 / 2 ^ n % 2 ≡ ones n % 2
+xor-odd : (a b : ℕ) → bitXor a b % 2 ≡ (a % 2 + b % 2) % 2
+xor-odd a b = omega (arith, xor-step a b, differ-sum (a % 2) (b % 2) (omega arith) (omega arith))
+
+three : (n : ℕ) → n < 8 → (n % 2 + n / 2 % 2 + n / 4 % 2) % 2 ≡ ones n % 2
 unfolding ones allBelow
-parities n h = eqb→eq (7608434000728254870 / 2 ^ n % 2) (ones n % 2) (all-below 64 (λ (n : ℕ). eqb (7608434000728254870 / 2 ^ n % 2) (ones n % 2)) tt n h)
+three n h = eqb→eq ((n % 2 + n / 2 % 2 + n / 4 % 2) % 2) (ones n % 2) (all-below 8 (λ (n : ℕ). eqb ((n % 2 + n / 2 % 2 + n / 4 % 2) % 2) (ones n % 2)) tt n h)
+
+sum-odd : (a b c : ℕ) → ((a + b) % 2 + c) % 2 ≡ (a + b + c) % 2
+sum-odd a b c = omega arith
+
+last : (d : ℕ) → bitXor (bitXor d (d / 2)) (d / 4) % 2 ≡ ones (d % 8) % 2
+last d =
+    let a : d % 8 % 2 ≡ d % 2 = omega arith in
+    let b : d % 8 / 2 % 2 ≡ d / 2 % 2 = ap (λ (n : ℕ). n % 2) (field d 2 1) ∙ mod-mod-pow (d / 2) 1 1 in
+    let c : d % 8 / 4 % 2 ≡ d / 4 % 2 = ap (λ (n : ℕ). n % 2) (field d 1 2) ∙ mod-mod-pow (d / 4) 0 1 in
+    let e : (d % 8 % 2 + d % 8 / 2 % 2 + d % 8 / 4 % 2) % 2 ≡ (d % 2 + d / 2 % 2 + d / 4 % 2) % 2 = λ i. (a i + b i + c i) % 2 in
+    xor-odd (bitXor d (d / 2)) (d / 4)
+    ∙ ap (λ (x : ℕ). (x + d / 4 % 2) % 2) (xor-odd d (d / 2))
+    ∙ sum-odd (d % 2) (d / 2 % 2) (d / 4 % 2)
+    ∙ sym e
+    ∙ three (d % 8) (omega arith)
 
 -- what the program computes of a number of 24 digits
-pub folded : (n : ℕ) → n < 4 ^ 12
-    → 7608434000728254870 / 2 ^ (bitXor (bitXor n (n / 2 ^ 12)) (bitXor n (n / 2 ^ 12) / 2 ^ 6) % 64) % 2 ≡ ones n % 2
-folded n h =
+pub folded : (n d : ℕ) → n < 4 ^ 12
+    → d ≡ bitXor (bitXor (bitXor n (n / 2 ^ 12)) (bitXor n (n / 2 ^ 12) / 2 ^ 6)) (bitXor (bitXor n (n / 2 ^ 12)) (bitXor n (n / 2 ^ 12) / 2 ^ 6) / 2 ^ 3)
+    → bitXor (bitXor d (d / 2)) (d / 4) % 2 ≡ ones n % 2
+folded n d h e =
     let b = bitXor n (n / 2 ^ 12) in
-    parities (bitXor b (b / 2 ^ 6) % 64) (mod-lt (bitXor b (b / 2 ^ 6)) (pow-pos 6))
+    let c = bitXor b (b / 2 ^ 6) in
+    last d
+    ∙ ap (λ (d : ℕ). ones (d % 2 ^ 3) % 2) e
+    ∙ sym (fold 3 c)
     ∙ sym (fold 6 b)
     ∙ sym (fold 12 n)
     ∙ ap (λ (m : ℕ). ones m % 2) (mod-eq-of-lt h)

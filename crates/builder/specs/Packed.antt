@@ -1,7 +1,9 @@
 -- The order of work in a turn: of the packed rotations only those that move the string are tried. Assumes nothing.
 use mathlib.Core.List.{List}
 use mathlib.Core.Path.{_≡_}
-use Prim.Native.Nat.{ℕ, _≤_, _<_, _^_}
+use Prim.Native.Nat.{ℕ, _%_, _≤_, _<_, _^_}
+use lib.Bits.{bitAnd}
+use lib.Count.{ones}
 use lib.ListN.{length}
 use Rattle.bicycle_common.specs.Ranges.{inTurn}
 use Rattle.pauli_string.specs.Strings.{pivotBits, rotate}
@@ -41,3 +43,7 @@ pub record Gathered (q p : ℕ) (rs ns : List ℕ) (i : ℕ) (xs gs : List ℕ) 
   pub front : k ≤ i
   pub beside : (j : ℕ) → j < k → Beside q p (at xs j) (at gs j)
   pub same : (d : ℕ) (s : State) → Has (entry (s .table)) p → inTurn k (listedTried xs gs d) s ≡ inTurn i (packedTried q rs ns p d) s
+
+-- of the rotations from i up to m, gs tells which have an odd number of ones in common with t
+abbrev pub Odds : ℕ → List ℕ → ℕ → ℕ → List ℕ → Type 0
+Odds t rs i m gs = (j : ℕ) → i ≤ j → j < m → at gs j ≡ ones (bitAnd t (at rs j)) % 2

@@ -37,7 +37,7 @@ ghost use Rattle.builder.specs.Answers.{after, done};
 ghost use Rattle.builder.specs.States.{Good, Asks, Moving};
 ghost use Rattle.builder.specs.Digits.{digit, one};
 ghost use Rattle.builder.specs.Short.{fore, strung, noted, Notes, Room};
-ghost use Rattle.builder.specs.Packed.{listedTried, packedTried, Scratch, Gathered};
+ghost use Rattle.builder.specs.Packed.{listedTried, packedTried, Scratch, Odds, Gathered};
 ghost use Rattle.builder.specs.Filter.{buckets, place, bucket, Covers, Rises, Marked};
 ghost use Rattle.builder.specs.Scans.{Reaches};
 
@@ -45,9 +45,6 @@ ghost use Rattle.builder.specs.Scans.{Reaches};
 const FOUND: u32 = 16700000;
 
 const TURNS: u32 = 131072;
-
-// Binary digit n is 1 where n < 64 has an odd number of ones
-const PARITIES: u64 = 7608434000728254870;
 
 // While the queue holds no more strings than this, a turn leaves its last two mebibytes free
 const SHORT: u32 = 16252388;
@@ -175,16 +172,29 @@ fn transposed(p: u32) -> u32
     p % 4096 * 4096 + p / 4096
 }
 
-// 1 where the string of which t is the transposed anticommutes with r, else 0. The digits in common are folded twice, and
-// what is left is looked up: without an instruction for it the count of ones takes twice as long.
-fn odd(t: u32, r: u32) -> usize
+// 1 where the string of which t is the transposed anticommutes with r, else 0. The digits in common are folded: without an
+// instruction for it the count of ones takes twice as long.
+fn odd(t: u32, r: u32) -> u32
     requires { ⌜ r < 4 ^ qubits ⌝ }
-    ensures { λ d. ⌜ (d ≡ ones (bitAnd t r) % 2) × (d < 2) ⌝ }
+    ensures { λ d. ⌜ d ≡ ones (bitAnd t r) % 2 ⌝ }
 {
     let a = t & r;
     let b = a ^ (a >> 12);
     let c = b ^ (b >> 6);
-    ((PARITIES >> (c % 64)) % 2) as usize
+    let d = c ^ (c >> 3);
+    (d ^ (d >> 1) ^ (d >> 2)) % 2
+}
+
+// The same for each of the first m of rs, in gs: a loop of its own, since it takes four at once.
+fn odds(t: u32, rs: &[u32; 540], m: usize, gs: &mut [u32; 540])
+    requires { ⌜ (length (now gs) ≡ natives) × (m ≤ natives) × ((i : ℕ) → at (now rs) i < 4 ^ qubits) ⌝ }
+    ensures { λ r. ⌜ (length (now (gs .exit)) ≡ natives) × Odds t (now (rs .entry)) 0 m (now (gs .exit)) ⌝ }
+{
+    let mut i: usize = 0;
+    while i < m {
+        gs[i] = odd(t, rs[i]);
+        i += 1;
+    }
 }
 
 // The strings to which one rotation moves p, in front of xs, with the rotations' numbers in gs. The answer is their
@@ -200,14 +210,14 @@ fn gather(
     requires { ⌜ (p < 4 ^ qubits) × Scratch (now xs) (now gs) × Rotations qubits (now rs) (now ns) m ⌝ }
     ensures { λ k. ⌜ Gathered qubits p (now (rs .entry)) (now (ns .entry)) m (now (xs .exit)) (now (gs .exit)) k ⌝ }
 {
-    let t = transposed(p);
+    odds(transposed(p), rs, m, gs);
     let mut k: usize = 0;
     let mut i: usize = 0;
     while i < m {
-        let r = rs[i];
-        xs[k] = p ^ r;
+        let moves = gs[i] as usize;
+        xs[k] = p ^ rs[i];
         gs[k] = ns[i];
-        k += odd(t, r);
+        k += moves;
         i += 1;
     }
     k
