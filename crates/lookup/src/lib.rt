@@ -23,7 +23,7 @@ ghost use Rattle.pauli_string.specs.Strings.{qubits};
 ghost use Rattle.native_measurement.specs.Natives.{natives};
 ghost use Rattle.measurement.specs.Matrices.{side, ofBytes, isBytes};
 ghost use Rattle.measurement.specs.Measures.{nativeString};
-ghost use Rattle.natives.specs.Arrays.{at, Held};
+ghost use Rattle.natives.specs.Cells.{shown, Spread};
 ghost use Rattle.table.specs.Bytes.{tableLength, entry};
 ghost use Rattle.table.specs.Entries.{depth, field, named, leads, valid};
 ghost use Rattle.lookup.specs.Walks;
@@ -51,9 +51,9 @@ pub enum LookupAnswer {
 // ---- one place of a walk
 
 // Whether the value v is a valid entry for string p.
-fn is_valid(strings: &[u32; 540], v: u32, p: u32) -> bool
-    requires { ⌜ Held qubits (now strings) ⌝ }
-    ensures { λ r. ⌜ r ≡ valid qubits (at (now (strings .entry))) v p ⌝ }
+fn is_valid(cells: &[u32; 36], v: u32, p: u32) -> bool
+    requires { ⌜ Spread (now cells) ⌝ }
+    ensures { λ r. ⌜ r ≡ valid qubits (shown (now (cells .entry))) v p ⌝ }
 {
     let field = v % 1024;
     if field == 0 {
@@ -62,11 +62,11 @@ fn is_valid(strings: &[u32; 540], v: u32, p: u32) -> bool
     if 540 < field {
         return false;
     }
-    let n = (field - 1) as usize;
-    if !natives::is_kept_unchecked(strings, n) {
+    let n = field - 1;
+    if !natives::is_kept_unchecked(cells, n) {
         return false;
     }
-    let string = strings[n];
+    let string = natives::string_unchecked(cells, n);
     if v / 1024 == 0 {
         return string == p;
     }
@@ -74,23 +74,22 @@ fn is_valid(strings: &[u32; 540], v: u32, p: u32) -> bool
 }
 
 // The same, and of depth d.
-fn stands(strings: &[u32; 540], v: u32, d: u32, p: u32) -> bool
-    requires { ⌜ Held qubits (now strings) ⌝ }
-    ensures { λ r. ⌜ r ≡ stands qubits (at (now (strings .entry))) v d p ⌝ }
+fn stands(cells: &[u32; 36], v: u32, d: u32, p: u32) -> bool
+    requires { ⌜ Spread (now cells) ⌝ }
+    ensures { λ r. ⌜ r ≡ stands qubits (shown (now (cells .entry))) v d p ⌝ }
 {
     if v / 1024 == d {
-        return is_valid(strings, v, p);
+        return is_valid(cells, v, p);
     }
     false
 }
 
 // The string to which the rotation by native n leads from p.
-fn next(strings: &[u32; 540], p: u32, n: u32) -> u32
-    requires { ⌜ (p < 4 ^ qubits) × (n < natives) × Held qubits (now strings) ⌝ }
-    ensures { λ r. ⌜ r ≡ leads qubits (at (now (strings .entry))) p n ⌝ }
+fn next(cells: &[u32; 36], p: u32, n: u32) -> u32
+    requires { ⌜ (p < 4 ^ qubits) × (n < natives) × Spread (now cells) ⌝ }
+    ensures { λ r. ⌜ r ≡ leads qubits (shown (now (cells .entry))) p n ⌝ }
 {
-    let i = n as usize;
-    let string = strings[i];
+    let string = natives::string_unchecked(cells, n);
     let x = PauliString(p).rotate_unchecked(PauliString(string));
     x.0
 }
@@ -98,23 +97,23 @@ fn next(strings: &[u32; 540], p: u32, n: u32) -> u32
 // ---- the walk
 
 // Whether the walk from p is good, down to its end. The depth falls by one at each place.
-fn is_good(table: &[u8], strings: &[u32; 540], p: u32) -> bool
-    requires { ⌜ (length (now table) ≡ tableLength qubits) × (p < 4 ^ qubits) × Held qubits (now strings) ⌝ }
-    ensures { λ r. ⌜ r ≡ good qubits (at (now (strings .entry))) (entry (now (table .entry))) p ⌝ }
+fn is_good(table: &[u8], cells: &[u32; 36], p: u32) -> bool
+    requires { ⌜ (length (now table) ≡ tableLength qubits) × (p < 4 ^ qubits) × Spread (now cells) ⌝ }
+    ensures { λ r. ⌜ r ≡ good qubits (shown (now (cells .entry))) (entry (now (table .entry))) p ⌝ }
 {
     let mut at = p;
     let mut v = table::entry_unchecked(table, p);
     let d = v / 1024;
     let mut k: u32 = 0;
     while k < d {
-        if !stands(strings, v, d - k, at) {
+        if !stands(cells, v, d - k, at) {
             return false;
         }
-        at = next(strings, at, v % 1024 - 1);
+        at = next(cells, at, v % 1024 - 1);
         v = table::entry_unchecked(table, at);
         k += 1;
     }
-    stands(strings, v, 0, at)
+    stands(cells, v, 0, at)
 }
 
 // Number n as two bytes, low first, the i-th pair of the buffer.
@@ -129,10 +128,10 @@ fn put_number(out: &mut [u8], i: usize, n: u32)
 
 // Writes the natives of the rotations of the good walk from p, which has d of them, base side first. The answer is the
 // string at the walk's end.
-fn write_rotations(table: &[u8], strings: &[u32; 540], p: u32, d: u32, out: &mut [u8]) -> u32
-    requires { ⌜ (length (now table) ≡ tableLength qubits) × (p < 4 ^ qubits) × Held qubits (now strings) ⌝ }
-    requires { ⌜ (d ≡ depth (entry (now table) p)) × (2 * d ≤ length (now out)) × (good qubits (at (now strings)) (entry (now table)) p ≡ true) ⌝ }
-    ensures { λ r. ⌜ (r ≡ bottom qubits (at (now (strings .entry))) (entry (now (table .entry))) p) × (now (out .exit) ≡ sets (now (out .entry)) 0 (twoBytes (rotations qubits (at (now (strings .entry))) (entry (now (table .entry))) p))) ⌝ }
+fn write_rotations(table: &[u8], cells: &[u32; 36], p: u32, d: u32, out: &mut [u8]) -> u32
+    requires { ⌜ (length (now table) ≡ tableLength qubits) × (p < 4 ^ qubits) × Spread (now cells) ⌝ }
+    requires { ⌜ (d ≡ depth (entry (now table) p)) × (2 * d ≤ length (now out)) × (good qubits (shown (now cells)) (entry (now table)) p ≡ true) ⌝ }
+    ensures { λ r. ⌜ (r ≡ bottom qubits (shown (now (cells .entry))) (entry (now (table .entry))) p) × (now (out .exit) ≡ sets (now (out .entry)) 0 (twoBytes (rotations qubits (shown (now (cells .entry))) (entry (now (table .entry))) p))) ⌝ }
 {
     let mut at = p;
     let mut left = d;
@@ -140,7 +139,7 @@ fn write_rotations(table: &[u8], strings: &[u32; 540], p: u32, d: u32, out: &mut
         let n = table::entry_unchecked(table, at) % 1024 - 1;
         left -= 1;
         put_number(out, left as usize, n);
-        at = next(strings, at, n);
+        at = next(cells, at, n);
     }
     at
 }
@@ -148,17 +147,17 @@ fn write_rotations(table: &[u8], strings: &[u32; 540], p: u32, d: u32, out: &mut
 // ---- the plan
 
 // The plan of the good walk from p, if the buffer has room for it.
-fn found(table: &[u8], strings: &[u32; 540], p: u32, out: &mut [u8]) -> LookupAnswer
-    requires { ⌜ (length (now table) ≡ tableLength qubits) × (p < 4 ^ qubits) × Held qubits (now strings) ⌝ }
-    requires { ⌜ good qubits (at (now strings)) (entry (now table)) p ≡ true ⌝ }
-    ensures { λ r. ⌜ Leaves (found qubits (at (now (strings .entry))) (entry (now (table .entry))) p (length (now (out .entry)))) (now (out .entry)) r (now (out .exit)) ⌝ }
+fn found(table: &[u8], cells: &[u32; 36], p: u32, out: &mut [u8]) -> LookupAnswer
+    requires { ⌜ (length (now table) ≡ tableLength qubits) × (p < 4 ^ qubits) × Spread (now cells) ⌝ }
+    requires { ⌜ good qubits (shown (now cells)) (entry (now table)) p ≡ true ⌝ }
+    ensures { λ r. ⌜ Leaves (found qubits (shown (now (cells .entry))) (entry (now (table .entry))) p (length (now (out .entry)))) (now (out .entry)) r (now (out .exit)) ⌝ }
 {
     let d = table::entry_unchecked(table, p) / 1024;
     let needed = 2 * d as usize;
     if out.len() < needed {
         return LookupAnswer::Refused(Refusal::Room(needed));
     }
-    let bottom = write_rotations(table, strings, p, d, out);
+    let bottom = write_rotations(table, cells, p, d, out);
     let n = table::entry_unchecked(table, bottom) % 1024 - 1;
     let number = n as u16;
     let base = NativeMeasurementImpl {
@@ -184,14 +183,14 @@ fn candidate(p: u32, l: Pauli) -> u32
 }
 
 // Whether p has no entry, or a good walk.
-fn is_sound(table: &[u8], strings: &[u32; 540], p: u32) -> bool
-    requires { ⌜ (length (now table) ≡ tableLength qubits) × (p < 4 ^ qubits) × Held qubits (now strings) ⌝ }
-    ensures { λ r. ⌜ r ≡ sound qubits (at (now (strings .entry))) (entry (now (table .entry))) p ⌝ }
+fn is_sound(table: &[u8], cells: &[u32; 36], p: u32) -> bool
+    requires { ⌜ (length (now table) ≡ tableLength qubits) × (p < 4 ^ qubits) × Spread (now cells) ⌝ }
+    ensures { λ r. ⌜ r ≡ sound qubits (shown (now (cells .entry))) (entry (now (table .entry))) p ⌝ }
 {
     if table::entry_unchecked(table, p) == 0 {
         return true;
     }
-    is_good(table, strings, p)
+    is_good(table, cells, p)
 }
 
 // Of two strings the one that has an entry, of both the one with fewer rotations, a where they are equal.
@@ -252,9 +251,9 @@ fn names(v: u32, d: u32) -> bool
 
 // False only where p has an entry and a bad walk: the walk down, with no test but of depths and fields. There is so little
 // to do at each place that the reads of one walk overlap with those of the next.
-fn falls(table: &[u8], strings: &[u32; 540], p: u32) -> bool
-    requires { ⌜ (length (now table) ≡ tableLength qubits) × (p < 4 ^ qubits) × Held qubits (now strings) ⌝ }
-    ensures { λ r. ⌜ (r ≡ false → sound qubits (at (now (strings .entry))) (entry (now (table .entry))) p ≡ false) ⌝ }
+fn falls(table: &[u8], cells: &[u32; 36], p: u32) -> bool
+    requires { ⌜ (length (now table) ≡ tableLength qubits) × (p < 4 ^ qubits) × Spread (now cells) ⌝ }
+    ensures { λ r. ⌜ (r ≡ false → sound qubits (shown (now (cells .entry))) (entry (now (table .entry))) p ≡ false) ⌝ }
 {
     let mut at = p;
     let mut v = table::entry_unchecked(table, p);
@@ -264,7 +263,7 @@ fn falls(table: &[u8], strings: &[u32; 540], p: u32) -> bool
         if !names(v, d - k) {
             return false;
         }
-        at = next(strings, at, v % 1024 - 1);
+        at = next(cells, at, v % 1024 - 1);
         v = table::entry_unchecked(table, at);
         k += 1;
     }
@@ -272,26 +271,26 @@ fn falls(table: &[u8], strings: &[u32; 540], p: u32) -> bool
 }
 
 // Whether each of three strings has no entry, or a good walk.
-fn all_sound(table: &[u8], strings: &[u32; 540], x: u32, z: u32, y: u32) -> bool
-    requires { ⌜ (length (now table) ≡ tableLength qubits) × (x < 4 ^ qubits) × (z < 4 ^ qubits) × (y < 4 ^ qubits) × Held qubits (now strings) ⌝ }
-    ensures { λ r. ⌜ r ≡ allSound qubits (at (now (strings .entry))) (entry (now (table .entry))) x z y ⌝ }
+fn all_sound(table: &[u8], cells: &[u32; 36], x: u32, z: u32, y: u32) -> bool
+    requires { ⌜ (length (now table) ≡ tableLength qubits) × (x < 4 ^ qubits) × (z < 4 ^ qubits) × (y < 4 ^ qubits) × Spread (now cells) ⌝ }
+    ensures { λ r. ⌜ r ≡ allSound qubits (shown (now (cells .entry))) (entry (now (table .entry))) x z y ⌝ }
 {
-    if !falls(table, strings, x) {
+    if !falls(table, cells, x) {
         return false;
     }
-    if !falls(table, strings, z) {
+    if !falls(table, cells, z) {
         return false;
     }
-    if !falls(table, strings, y) {
+    if !falls(table, cells, y) {
         return false;
     }
-    if !is_sound(table, strings, x) {
+    if !is_sound(table, cells, x) {
         return false;
     }
-    if !is_sound(table, strings, z) {
+    if !is_sound(table, cells, z) {
         return false;
     }
-    is_sound(table, strings, y)
+    is_sound(table, cells, y)
 }
 
 // ---- which string is looked up: p itself, or with any letter on the pivot the best candidate
@@ -311,17 +310,17 @@ fn is_missing(table: &[u8], p: u32, any: bool) -> bool
 }
 
 // Whether the walk from p is good, or that of every candidate with an entry.
-fn is_judged(table: &[u8], strings: &[u32; 540], p: u32, any: bool) -> bool
-    requires { ⌜ (length (now table) ≡ tableLength qubits) × (p < 4 ^ qubits) × Held qubits (now strings) ⌝ }
-    ensures { λ r. ⌜ r ≡ judged any qubits (at (now (strings .entry))) (entry (now (table .entry))) p ⌝ }
+fn is_judged(table: &[u8], cells: &[u32; 36], p: u32, any: bool) -> bool
+    requires { ⌜ (length (now table) ≡ tableLength qubits) × (p < 4 ^ qubits) × Spread (now cells) ⌝ }
+    ensures { λ r. ⌜ r ≡ judged any qubits (shown (now (cells .entry))) (entry (now (table .entry))) p ⌝ }
 {
     if any {
         let x = candidate(p, Pauli::X);
         let z = candidate(p, Pauli::Z);
         let y = candidate(p, Pauli::Y);
-        return all_sound(table, strings, x, z, y);
+        return all_sound(table, cells, x, z, y);
     }
-    is_good(table, strings, p)
+    is_good(table, cells, p)
 }
 
 fn winner(table: &[u8], p: u32, any: bool) -> u32
@@ -337,23 +336,17 @@ fn winner(table: &[u8], p: u32, any: bool) -> u32
     p
 }
 
-// The lookup over the natives' strings, where there is an entry.
-fn look_sought(
-    table: &[u8],
-    strings: &[u32; 540],
-    p: u32,
-    any: bool,
-    out: &mut [u8],
-) -> LookupAnswer
-    requires { ⌜ (length (now table) ≡ tableLength qubits) × (p < 4 ^ qubits) × Held qubits (now strings) ⌝ }
+// The lookup over the natives' cells, where there is an entry.
+fn look_sought(table: &[u8], cells: &[u32; 36], p: u32, any: bool, out: &mut [u8]) -> LookupAnswer
+    requires { ⌜ (length (now table) ≡ tableLength qubits) × (p < 4 ^ qubits) × Spread (now cells) ⌝ }
     requires { ⌜ missing any qubits (entry (now table)) p ≡ false ⌝ }
-    ensures { λ r. ⌜ Leaves (sought qubits (at (now (strings .entry))) (entry (now (table .entry))) any p (length (now (out .entry)))) (now (out .entry)) r (now (out .exit)) ⌝ }
+    ensures { λ r. ⌜ Leaves (sought qubits (shown (now (cells .entry))) (entry (now (table .entry))) any p (length (now (out .entry)))) (now (out .entry)) r (now (out .exit)) ⌝ }
 {
-    if !is_judged(table, strings, p, any) {
+    if !is_judged(table, cells, p, any) {
         return LookupAnswer::Refused(Refusal::BadEntry);
     }
     let w = winner(table, p, any);
-    found(table, strings, w, out)
+    found(table, cells, w, out)
 }
 
 // ---- the calls
@@ -383,9 +376,8 @@ fn look_pair(table: &[u8], mx: &[u8], my: &[u8], p: u32, any: bool, out: &mut [u
     if is_missing(table, p, any) {
         return LookupAnswer::Refused(Refusal::NoEntry);
     }
-    let mut strings = [0u32; 540];
-    natives::strings_unchecked(mx, my, &mut strings);
-    look_sought(table, &strings, p, any, out)
+    let cells = natives::cells_unchecked(mx, my);
+    look_sought(table, &cells, p, any, out)
 }
 
 // The same with every test, in the order of their numbers.

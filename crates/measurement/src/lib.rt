@@ -20,10 +20,11 @@ use pauli_string::StringAnswer;
 ghost use mathlib.Core.Path.{_≡_};
 ghost use mathlib.Core.Bool.{true};
 ghost use Prim.Native.Nat.{ℕ, _*_, _^_, _<_, _≤_};
+ghost use lib.Dec.{ltb};
 ghost use lib.ListN.{getD, length};
 ghost use Rattle.bicycle_common.specs.Ranges.{listed};
-ghost use Rattle.bicycle_common.specs.Letters.{xOf, zOf};
-ghost use Rattle.measurement.specs.Matrices.{side, ofRows, byRows, ofBytes, one, mul, pow, isBinary, isBytes, Binary, Same};
+ghost use Rattle.bicycle_common.specs.Letters.{flag, xOf, zOf};
+ghost use Rattle.measurement.specs.Matrices.{side, ofRows, byRows, ofBytes, one, mul, pow, isBinary, isBytes, overs, Binary, Same};
 ghost use Rattle.measurement.specs.Measures.{action, packed, placed, placedBy, measured};
 ghost use Rattle.measurement.specs.Codes.{pairOf, codePair};
 ghost use Rattle.measurement.specs.Answers.{measuresIf, measures, measuresBytes};
@@ -234,6 +235,27 @@ fn of_bytes(b: &[u8]) -> [[u8; 6]; 6]
     out
 }
 
+// 1 for a number over 1. The loop that counts has no branch, for speed.
+fn over(b: u8) -> u8
+    ensures { λ r. ⌜ r ≡ flag (ltb 1 b) ⌝ }
+{
+    if b > 1 { 1 } else { 0 }
+}
+
+// How many of 36 numbers are over 1.
+fn overs(m: &[u8]) -> u8
+    requires { ⌜ length (now m) ≡ side * side ⌝ }
+    ensures { λ r. ⌜ r ≡ overs (now (m .entry)) (side * side) ⌝ }
+{
+    let mut n: u8 = 0;
+    let mut q: usize = 0;
+    while q < 36 {
+        n += over(m[q]);
+        q += 1;
+    }
+    n
+}
+
 // Whether the bytes are a matrix by rows: 36 numbers, none of which is over 1.
 pub fn is_matrix(m: &[u8]) -> bool
     ensures { λ r. ⌜ r ≡ isBytes side (now (m .entry)) ⌝ }
@@ -241,14 +263,7 @@ pub fn is_matrix(m: &[u8]) -> bool
     if m.len() != 36 {
         return false;
     }
-    let mut q: usize = 0;
-    while q < 36 {
-        if m[q] > 1 {
-            return false;
-        }
-        q += 1;
-    }
-    true
+    overs(m) == 0
 }
 
 // ---- what a native measures

@@ -1,24 +1,24 @@
--- Chained buckets find each native's next equal: the walk along a chain meets every greater native with the same string, and so does the
--- count. Assumes nothing.
+-- Chained buckets find each native's next equal: the walk along a chain meets every greater native with the same string. And a count of 0 or
+-- 1 says where a number stands. Assumes nothing.
 use mathlib.Core.Bool.{Bool, true, false}
 use mathlib.Core.List.{List}
 use mathlib.Core.Logic.{⊎-elim}
 use mathlib.Core.Path.{_≡_, refl, sym, ap, _∙_, subst}
-use Prim.Native.Nat.{ℕ, suc, _+_, _-_, _%_, _<_, _≤_}
+use Prim.Native.Nat.{ℕ, zero, suc, _+_, _-_, _%_, _<_, _≤_}
 use native.Mathlib.Nat.{eq-or-lt-of-le}
 use native.Mathlib.Omega.{arith}
 use lib.ListN.{getD, length, set, replicate, getD-replicate}
 use lib.Dec.{eqb}
-use borrow.Author.Tests.{eqb-true, eqb-false, eq-eqb, ne-eqb}
+use borrow.Author.Tests.{eqb-false, eq-eqb}
 use Rattle.bicycle_common.specs.Letters.{flag}
-use Rattle.bicycle_common.proofs.Ranges.{lt-or-ge, stored-at, sum-next, sum-le, sum-first, sum-terms-zero, sum-pos}
+use Rattle.bicycle_common.proofs.Ranges.{lt-or-ge, stored-at, sum-next, sum-le, sum-terms-zero}
 use Rattle.bicycle_common.specs.Ranges.{sum}
 use Rattle.bicycle_common.proofs.Letters.{flag-le}
 use Rattle.native_measurement.specs.Natives.{natives}
 use Rattle.natives.specs.Kept.{kept}
 use Rattle.natives.specs.Arrays.{at}
 use Rattle.natives.specs.Chains.{buckets, bucket, Next, Heads, occurrences}
-use Rattle.natives.proofs.Kept.{not-kept, kept-complete}
+use Rattle.natives.proofs.Kept.{kept-complete}
 
 -- ---- the chains
 
@@ -86,36 +86,40 @@ occurrences-more f v from m h =
 pub occurrences-le : (f : ℕ → ℕ) (v from k : ℕ) → occurrences f v from k ≤ k
 occurrences-le f v from k = sum-le k _ (λ j h. flag-le (eqb (f (from + j)) v))
 
-flag-pos : (b : Bool) → 0 < flag b → b ≡ true
-flag-pos true h = refl
-flag-pos false h = absurd (omega arith)
-
 flag-zero : (b : Bool) → flag b ≡ 0 → b ≡ false
 flag-zero true h = absurd (omega arith)
 flag-zero false h = refl
 
--- the string of native n, and k natives behind it
-once : (f : ℕ → ℕ) (n k : ℕ) → n + suc k ≡ natives → eqb (occurrences f (f n) n (suc k)) 1 ≡ kept f n
-once f n k e =
-    let F : ℕ → ℕ = λ j. flag (eqb (f (n + j)) (f n)) in
-    let rest : ℕ = sum k (λ (j : ℕ). F (suc j)) in
-    let z : n + 0 ≡ n = omega arith in
-    let head : F 0 ≡ 1 = ap flag (eq-eqb (f (n + 0)) (f n) (ap f z)) in
-    let total : sum (suc k) F ≡ 1 + rest = sum-first k F ∙ ap (λ (a : ℕ). a + rest) head in
+-- v stands nowhere
+pub none-there : (f : ℕ → ℕ) (v from to : ℕ) → occurrences f v from (to - from) ≡ 0 → (m : ℕ) → from ≤ m → m < to → f m ≡ v → ⊥
+none-there f v from to z m l h e =
+    let i : from + (m - from) ≡ m = omega arith in
+    eqb-false (f (from + (m - from))) v (flag-zero _ (sum-terms-zero (to - from) (λ (j : ℕ). flag (eqb (f (from + j)) v)) z (m - from) (omega arith))) (ap f i ∙ e)
+
+one-place : (n : ℕ) (F : ℕ → ℕ) (i : ℕ) → i < n → F i ≡ 1 → 1 ≤ sum n F
+one-place n F i h e =
     ⊎-elim
-    (λ (q : 0 ≡ rest).
-    eq-eqb (sum (suc k) F) 1 (omega arith)
-    ∙ sym (kept-complete f n (λ m l hm p.
-    let i : n + suc (m - n - 1) ≡ m = omega arith in
-    eqb-false (f (n + suc (m - n - 1))) (f n) (flag-zero _ (sum-terms-zero k (λ (j : ℕ). F (suc j)) (sym q) (m - n - 1) (omega arith))) (ap f i ∙ p))))
-    (λ (q : 0 < rest).
-    let w = sum-pos k (λ (j : ℕ). F (suc j)) q in
-    let h = w .1 in
-    ne-eqb (sum (suc k) F) 1 (λ p. omega arith)
-    ∙ sym (not-kept f n (n + suc (w .0)) (omega arith) (omega arith) (eqb-true (f (n + suc (w .0))) (f n) (flag-pos _ (w .2)))))
+    (λ (q : 0 ≡ sum n F). absurd (omega (arith, e, sum-terms-zero n F (sym q) i h)))
+    (λ (q : 0 < sum n F). q)
     (eq-or-lt-of-le (omega arith))
 
-pub occurs-once : (f : ℕ → ℕ) (n : ℕ) → n < natives → eqb (occurrences f (f n) n (natives - n)) 1 ≡ kept f n
-occurs-once f n h =
-    let e : natives - n ≡ suc (natives - n - 1) = omega arith in
-    rw e (once f n (natives - n - 1) (omega arith))
+two-places : (n : ℕ) (F : ℕ → ℕ) (i j : ℕ) → i < j → j < n → F i ≡ 1 → F j ≡ 1 → 2 ≤ sum n F
+unfolding sum
+two-places zero F i j l h a b = absurd (omega arith)
+two-places (suc n) F i j l h a b =
+    ⊎-elim
+    (λ (q : j ≡ n). let c = one-place n F i (omega arith) a in let d : F n ≡ 1 = ap F (sym q) ∙ b in omega arith)
+    (λ (q : j < n). let c = two-places n F i j l q a b in omega arith)
+    (eq-or-lt-of-le (omega arith))
+
+-- v stands at one place alone
+pub one-there : (f : ℕ → ℕ) (v from to : ℕ) → occurrences f v from (to - from) ≡ 1
+    → (i j : ℕ) → from ≤ i → i < j → j < to → f i ≡ v → f j ≡ v → ⊥
+one-there f v from to one i j l h hj ei ej =
+    let F : ℕ → ℕ = λ k. flag (eqb (f (from + k)) v) in
+    let pi : from + (i - from) ≡ i = omega arith in
+    let pj : from + (j - from) ≡ j = omega arith in
+    let ai : F (i - from) ≡ 1 = ap flag (eq-eqb (f (from + (i - from))) v (ap f pi ∙ ei)) in
+    let aj : F (j - from) ≡ 1 = ap flag (eq-eqb (f (from + (j - from))) v (ap f pj ∙ ej)) in
+    let two : 2 ≤ sum (to - from) F = two-places (to - from) F (i - from) (j - from) (omega arith) (omega arith) ai aj in
+    omega (arith, one, two)

@@ -2,7 +2,6 @@
 -- columns is its first column. Assumes nothing.
 use mathlib.Core.List.{List, [], _∷_}
 use mathlib.Core.Path.{_≡_, refl, ap, ap₂, _∙_}
-use mathlib.Core.Logic.{⊎-elim}
 use Prim.Native.Nat.{ℕ, _+_, _-_, _*_, _/_, _%_, _^_, _<_, _≤_}
 use native.Mathlib.Omega.{arith}
 use lib.ListN.{getD, length, set}
@@ -11,16 +10,16 @@ use Rattle.bicycle_common.specs.Letters.{xOf, zOf}
 use Rattle.bicycle_common.specs.Automorphisms.{component, ofPair, opposite, inverse}
 use Rattle.bicycle_common.specs.Ranges.{sum, listFrom, listed}
 use Rattle.bicycle_common.proofs.Letters.{digit-x, digit-z}
-use Rattle.bicycle_common.proofs.Ranges.{lt-or-ge, stored-at}
+use Rattle.bicycle_common.proofs.Ranges.{stored-at}
 use Rattle.pauli_string.specs.Strings.{bit}
 use Rattle.native_measurement.specs.Natives.{natives, ofRank, nativeOf, basesAt}
-use Rattle.measurement.specs.Matrices.{side, Matrix, ofRows, ofBytes, one, mul, pow, Binary, Same}
+use Rattle.measurement.specs.Matrices.{side, Matrix, ofBytes, one, mul, pow, Binary, Same}
 use Rattle.measurement.specs.Measures.{action, packed, placed, placedBy, measured, nativeString}
 use Rattle.measurement.proofs.Matrices.{mul-binary, one-binary, pow-binary, mul-same, action-same, packed-same, packed-lt}
 use Rattle.measurement.proofs.Letters.{bit-packed}
 use Rattle.measurement.proofs.Algebra.{one-left, product-turned}
 use Rattle.natives.specs.Arrays.{at}
-use Rattle.natives.specs.Packed.{iterated, ofRowWords, ofColumnWords, Words, wordAt, Lines, cell, Cells, SmallCells, wordString, gridString, Upto, Block}
+use Rattle.natives.specs.Packed.{iterated, ofRowWords, ofColumnWords, Words, wordAt, Lines, cell, Cells, SmallCells, wordString, gridString}
 use Rattle.natives.proofs.Words.{bit-le, iterated-lt, row-iterated}
 
 -- ---- cells are words
@@ -194,23 +193,3 @@ pub stored-from : {A : Type 0} (P : ℕ → A → Type 0) (l : List A) (d : A) (
     → ((t : ℕ) → t < k → P t (getD l (b + t) d)) → P k v → (t : ℕ) → t < k + 1 → P t (getD (set l (b + k) v) (b + t) d)
 stored-from P l d b k v hk h p t ht =
     stored-at (P t) l d (b + t) (b + k) v hk (λ e. let q : t ≡ k = omega arith in rw q p) (λ e. h t (omega arith))
-
-split-15 : (n a : ℕ) → 15 * a ≤ n → n < 15 * (a + 1) → (n / 15 ≡ a) × (n % 15 ≡ n - 15 * a)
-split-15 n a h k = (omega arith, omega arith)
-
-pub block-more : (cs rs : List (List ℕ)) (a c w : ℕ) (l m : List ℕ) → a < 36
-    → c ≡ ofRows cs ((6 - a % 6) % 6) ((6 - a / 6) % 6) → w ≡ ofRows rs (a / 6) (a % 6)
-    → Block c w a l m → Upto cs rs a l → Upto cs rs (a + 1) m
-unfolding gridString
-block-more cs rs a c w l m h ec ew b u = (
-  b .size,
-  λ n hn. ⊎-elim
-      (λ (q : n < 15 * a). b .stays n q ∙ u .1 n q)
-      (λ (q : 15 * a ≤ n).
-      let e : n ≡ 15 * a + (n - 15 * a) = omega arith in
-      let d = split-15 n a q hn in
-      let o1 : opposite (a % 6) ≡ (6 - a % 6) % 6 = ap (λ (t : ℕ). (6 - t) % 6) (reduced a) in
-      let o2 : opposite (a / 6) ≡ (6 - a / 6) % 6 = ap (λ (t : ℕ). (6 - t) % 6) (let z : a / 6 % 6 ≡ a / 6 = omega arith in z) in
-      ap (at m) e ∙ b .here (n - 15 * a) (omega arith) ∙ rw (d .0, d .1, o1, o2, ec, ew))
-      (lt-or-ge n (15 * a)),
-)

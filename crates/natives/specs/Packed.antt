@@ -7,7 +7,7 @@ use lib.Bits.{bitXor}
 use lib.ListN.{length}
 use Rattle.bicycle_common.specs.Automorphisms.{opposite}
 use Rattle.pauli_string.specs.Strings.{bit}
-use Rattle.native_measurement.specs.Natives.{natives, basesAt}
+use Rattle.native_measurement.specs.Natives.{basesAt}
 use Rattle.measurement.specs.Matrices.{side, Matrix, ofRows}
 use Rattle.measurement.specs.Measures.{packed, placedBy}
 use Rattle.natives.specs.Arrays.{at}
@@ -25,6 +25,22 @@ combined s R v = xors s (λ (k : ℕ). bit v k * R k)
 unfoldable pub iterated : ℕ → (ℕ → ℕ) → ℕ → ℕ → ℕ
 iterated s R v zero = v
 iterated s R v (suc n) = combined s R (iterated s R v n)
+
+-- the words R 0, .., R (s - 1) added modulo 2 in each way: sum j has those that j names by its digits
+abbrev pub Sums : ℕ → (ℕ → ℕ) → List ℕ → Type 0
+Sums s R l = (length l ≡ 2 ^ s) × ((j : ℕ) → j < 2 ^ s → at l j ≡ combined s R j)
+
+-- sums of three words of the side
+abbrev pub SmallSums : List ℕ → Type 0
+SmallSums l = (length l ≡ 8) × ((j : ℕ) → j < 8 → at l j < 2 ^ side)
+
+-- v taken through a matrix by the sums of its first three words and of its last three, and so t times
+abbrev pub stepped : List ℕ → List ℕ → ℕ → ℕ
+stepped lo hi v = bitXor (at lo (v % 8)) (at hi (v / 8))
+
+unfoldable pub walked : List ℕ → List ℕ → ℕ → ℕ → ℕ
+walked lo hi v zero = v
+walked lo hi v (suc t) = stepped lo hi (walked lo hi v t)
 
 -- the matrix of which r holds the rows, and of which r holds the columns
 abbrev pub ofRowWords : List ℕ → Matrix
@@ -65,13 +81,3 @@ wordString c w k = placedBy side c w (basesAt k)
 unfoldable pub gridString : List (List ℕ) → List (List ℕ) → ℕ → ℕ
 gridString cs rs n =
     wordString (ofRows cs (opposite (n / 15 % 6)) (opposite (n / 15 / 6))) (ofRows rs (n / 15 / 6) (n / 15 % 6)) (n % 15)
-
--- l holds the strings of the automorphisms below a
-abbrev pub Upto : List (List ℕ) → List (List ℕ) → ℕ → List ℕ → Type 0
-Upto cs rs a l = (length l ≡ natives) × ((n : ℕ) → n < 15 * a → at l n ≡ gridString cs rs n)
-
--- the strings of automorphism a are written, and those before it stay
-pub record Block (c w a : ℕ) (l m : List ℕ) : Type 0 where
-  pub size : length m ≡ natives
-  pub stays : (n : ℕ) → n < 15 * a → at m n ≡ at l n
-  pub here : (k : ℕ) → k < 15 → at m (15 * a + k) ≡ wordString c w k

@@ -4,7 +4,7 @@ use mathlib.Core.Path.{refl, sym, ap, _∙_}
 use mathlib.Core.Bool.{Bool, _&&_, and-false}
 use borrow.Author.Tests.{not-true, not-false}
 use Rattle.pauli_string.specs.Strings.{qubits}
-use Rattle.natives.specs.Arrays.{at}
+use Rattle.natives.specs.Cells.{shown}
 use Rattle.table.specs.Bytes.{entry}
 use Prim.Native.Nat.{ℕ}
 use Rattle.lookup.specs.Walks.{sound}
@@ -13,7 +13,7 @@ use Rattle.lookup.proofs.all_sound.Tie as tie
 
 -- whether string x is sound
 abbrev s : tie.Start → ℕ → Bool
-s t x = sound qubits (at (t .args .strings .now)) (entry (t .args .table .now)) x
+s t x = sound qubits (shown (t .args .cells .now)) (entry (t .args .table .now)) x
 
 falls-requires : tie.Need-falls-requires
 falls-requires c κs = search needs

@@ -7,7 +7,8 @@ use Prim.Native.Nat.{ℕ, _-_, _/_, _≤_}
 use borrow.Author.Tests.{not-true, not-false}
 use native.Mathlib.Omega.{arith}
 use Rattle.pauli_string.specs.Strings.{qubits}
-use Rattle.natives.specs.Arrays.{at as string}
+use Rattle.natives.specs.Cells.{shown}
+use Rattle.natives.proofs.Cells.{shown-lt}
 use Rattle.table.specs.Bytes.{entry}
 use Rattle.table.specs.Entries.{depth}
 use Rattle.lookup.proofs.Walks.{sound-some, good-not, Place, place-first, place-tested, next-inside, place-next}
@@ -15,14 +16,14 @@ use Rattle.lookup.proofs.falls.Statement.{statement}
 use Rattle.lookup.proofs.falls.Tie as tie
 
 abbrev Inv-loop : tie.InvT-loop
-Inv-loop table strings p at₀ v₀ d k₀ at v k = (k ≤ d) × Place qubits (string strings) (entry table) p k at v
+Inv-loop table cells p at₀ v₀ d k₀ at v k = (k ≤ d) × Place qubits (shown cells) (entry table) p k at v
 
 abbrev μ-loop : tie.MeasureT-loop
-μ-loop table strings p at₀ v₀ d k₀ at v k = d - k
+μ-loop table cells p at₀ v₀ d k₀ at v k = d - k
 
 -- the natives' strings and the table's values
 abbrev f : (c : tie.At-loop Inv-loop μ-loop) → ℕ → ℕ
-f c = string (c .before .before .before .args .strings .now)
+f c = shown (c .before .before .before .args .cells .now)
 
 abbrev e : (c : tie.At-loop Inv-loop μ-loop) → ℕ → ℕ
 e c = entry (c .before .before .before .args .table .now)
@@ -40,7 +41,7 @@ entry-unchecked-requires c κs = search needs
 loop-holds : tie.Need-loop-holds Inv-loop μ-loop
 loop-holds c =
     let s = c .before .before in
-    (omega arith, place-first qubits (string (s .args .strings .now)) (entry (s .args .table .now)) (s .args .p) (c .entry-unchecked .result) (s .pre .1) (c .entry-unchecked .ensures))
+    (omega arith, place-first qubits (shown (s .args .cells .now)) (entry (s .args .table .now)) (s .args .p) (c .entry-unchecked .result) (s .pre .1) (c .entry-unchecked .ensures))
 
 sub-names : tie.Need-sub-names Inv-loop μ-loop
 sub-names c = omega (arith, c .loop-test .taken)
@@ -64,7 +65,7 @@ entry-unchecked-requires-2 : tie.Need-entry-unchecked-requires-2 Inv-loop μ-loo
 entry-unchecked-requires-2 c κs =
     let l = c .before .before .before .before in
     let s = c .before .before .before .before .before .before .before in
-    (next-inside qubits (f l) (e l) (p l) (s .pre .2 .small) (l .loop .k) (l .loop .at) (l .loop .v) (c .next .result) (l .loop .inv .1) (c .next .ensures), s .pre .0)
+    (next-inside qubits (f l) (e l) (p l) (shown-lt (s .args .cells .now)) (l .loop .k) (l .loop .at) (l .loop .v) (c .next .result) (l .loop .inv .1) (c .next .ensures), s .pre .0)
 
 add-k : tie.Need-add-k Inv-loop μ-loop
 add-k c = search needs
@@ -76,7 +77,7 @@ loop-again : tie.Need-loop-again Inv-loop μ-loop
 loop-again c =
     let l = c .before .before .before .before .before in (
       omega (arith, c .before .before .before .before .loop-test .taken),
-      place-next qubits (f l) (e l) (p l) (c .before .before .before .before .before .before .before .before .pre .2 .small) (l .loop .k) (l .loop .at) (l .loop .v) (c .before .next .result) (l .loop .inv .1) (c .before .next .ensures) (c .entry-unchecked2 .result) (c .entry-unchecked2 .ensures),
+      place-next qubits (f l) (e l) (p l) (shown-lt (c .before .before .before .before .before .before .before .before .args .cells .now)) (l .loop .k) (l .loop .at) (l .loop .v) (c .before .next .result) (l .loop .inv .1) (c .before .next .ensures) (c .entry-unchecked2 .result) (c .entry-unchecked2 .ensures),
     )
 
 returns-2 : tie.Need-returns-2 Inv-loop μ-loop

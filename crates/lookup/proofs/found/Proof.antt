@@ -6,7 +6,8 @@ use native.Mathlib.Omega.{arith}
 use lib.ListN.{length}
 use Rattle.bicycle_common.specs.declared.Refusal.the-variants.{Room}
 use Rattle.pauli_string.specs.Strings.{qubits}
-use Rattle.natives.specs.Arrays.{at}
+use Rattle.natives.specs.Cells.{shown}
+use Rattle.natives.proofs.Cells.{shown-lt}
 use Rattle.table.specs.Bytes.{entry}
 use Rattle.table.specs.Entries.{depth, named}
 use Rattle.lookup.specs.Walks.{bottom, rotations}
@@ -18,14 +19,14 @@ use Rattle.lookup.proofs.found.Tie as tie
 
 -- the natives' strings and the table's values
 abbrev f : tie.Start → ℕ → ℕ
-f s = at (s .args .strings .now)
+f s = shown (s .args .cells .now)
 
 abbrev e : tie.Start → ℕ → ℕ
 e s = entry (s .args .table .now)
 
 -- the walk's end is a string
 inside : (s : tie.Start) → bottom qubits (f s) (e s) (s .args .p) < 4 ^ qubits
-inside s = down-string qubits (f s) (e s) (s .args .p) (s .pre .0 .2 .small) (s .pre .0 .1) (depth (e s (s .args .p)))
+inside s = down-string qubits (f s) (e s) (s .args .p) (shown-lt (s .args .cells .now)) (s .pre .0 .1) (depth (e s (s .args .p)))
 
 -- and its value names a native
 names : (s : tie.Start) → Valid qubits (f s) (e s (bottom qubits (f s) (e s) (s .args .p))) (depth (e s (s .args .p)) - depth (e s (s .args .p))) (bottom qubits (f s) (e s) (s .args .p))

@@ -8,7 +8,8 @@ use borrow.Author.Tests.{not-true, not-false}
 use borrow.Author.Count.{below-more}
 use native.Mathlib.Omega.{arith}
 use Rattle.pauli_string.specs.Strings.{qubits}
-use Rattle.natives.specs.Arrays.{at as string}
+use Rattle.natives.specs.Cells.{shown}
+use Rattle.natives.proofs.Cells.{shown-lt}
 use Rattle.table.specs.Bytes.{entry}
 use Rattle.table.specs.Entries.{depth}
 use Rattle.lookup.specs.Walks.{stands}
@@ -17,14 +18,14 @@ use Rattle.lookup.proofs.is_good.Statement.{statement}
 use Rattle.lookup.proofs.is_good.Tie as tie
 
 abbrev Inv-loop : tie.InvT-loop
-Inv-loop table strings p at₀ v₀ d k₀ at v k = (k ≤ d) × Place qubits (string strings) (entry table) p k at v × ((j : ℕ) → j < k → At qubits (string strings) (entry table) p j ≡ true)
+Inv-loop table cells p at₀ v₀ d k₀ at v k = (k ≤ d) × Place qubits (shown cells) (entry table) p k at v × ((j : ℕ) → j < k → At qubits (shown cells) (entry table) p j ≡ true)
 
 abbrev μ-loop : tie.MeasureT-loop
-μ-loop table strings p at₀ v₀ d k₀ at v k = d - k
+μ-loop table cells p at₀ v₀ d k₀ at v k = d - k
 
 -- the natives' strings and the table's values
 abbrev f : (c : tie.At-loop Inv-loop μ-loop) → ℕ → ℕ
-f c = string (c .before .before .before .args .strings .now)
+f c = shown (c .before .before .before .args .cells .now)
 
 abbrev e : (c : tie.At-loop Inv-loop μ-loop) → ℕ → ℕ
 e c = entry (c .before .before .before .args .table .now)
@@ -50,7 +51,7 @@ entry-unchecked-requires c κs = search needs
 loop-holds : tie.Need-loop-holds Inv-loop μ-loop
 loop-holds c =
     let s = c .before .before in
-    (omega arith, place-first qubits (string (s .args .strings .now)) (entry (s .args .table .now)) (s .args .p) (c .entry-unchecked .result) (s .pre .1) (c .entry-unchecked .ensures), λ j l. absurd (omega arith))
+    (omega arith, place-first qubits (shown (s .args .cells .now)) (entry (s .args .table .now)) (s .args .p) (c .entry-unchecked .result) (s .pre .1) (c .entry-unchecked .ensures), λ j l. absurd (omega arith))
 
 sub-stands : tie.Need-sub-stands Inv-loop μ-loop
 sub-stands c = omega (arith, c .loop-test .taken)
@@ -73,7 +74,7 @@ entry-unchecked-requires-2 : tie.Need-entry-unchecked-requires-2 Inv-loop μ-loo
 entry-unchecked-requires-2 c κs =
     let l = c .before .before .before .before in
     let s = c .before .before .before .before .before .before .before in
-    (next-inside qubits (f l) (e l) (p l) (s .pre .2 .small) (l .loop .k) (l .loop .at) (l .loop .v) (c .next .result) (l .loop .inv .1) (c .next .ensures), s .pre .0)
+    (next-inside qubits (f l) (e l) (p l) (shown-lt (s .args .cells .now)) (l .loop .k) (l .loop .at) (l .loop .v) (c .next .result) (l .loop .inv .1) (c .next .ensures), s .pre .0)
 
 add-k : tie.Need-add-k Inv-loop μ-loop
 add-k c = search needs
@@ -85,7 +86,7 @@ loop-again : tie.Need-loop-again Inv-loop μ-loop
 loop-again c =
     let l = c .before .before .before .before .before in (
       omega (arith, c .before .before .before .before .loop-test .taken),
-      place-next qubits (f l) (e l) (p l) (c .before .before .before .before .before .before .before .before .pre .2 .small) (l .loop .k) (l .loop .at) (l .loop .v) (c .before .next .result) (l .loop .inv .1) (c .before .next .ensures) (c .entry-unchecked2 .result) (c .entry-unchecked2 .ensures),
+      place-next qubits (f l) (e l) (p l) (shown-lt (c .before .before .before .before .before .before .before .before .args .cells .now)) (l .loop .k) (l .loop .at) (l .loop .v) (c .before .next .result) (l .loop .inv .1) (c .before .next .ensures) (c .entry-unchecked2 .result) (c .entry-unchecked2 .ensures),
       below-more (λ (j : ℕ). At qubits (f l) (e l) (p l) j ≡ true) (l .loop .k) (l .loop .inv .2) (sym (tested l) ∙ sym (c .before .before .before .stands .ensures) ∙ not-false _ (c .before .before .if1 .left)),
     )
 

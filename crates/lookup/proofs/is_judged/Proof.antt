@@ -3,7 +3,7 @@ use borrow.Author.Needs.{needs}
 use mathlib.Core.Path.{sym, ap, _∙_}
 use mathlib.Core.Bool.{Bool}
 use Rattle.pauli_string.specs.Strings.{qubits}
-use Rattle.natives.specs.Arrays.{at}
+use Rattle.natives.specs.Cells.{shown}
 use Rattle.table.specs.Bytes.{entry}
 use Rattle.lookup.specs.Walks.{allSound, judged}
 use Rattle.lookup.proofs.Walks.{of-three}
@@ -25,7 +25,7 @@ all-sound-requires c κs = (c .before .before .before .before .before .pre .0, c
 returns : tie.Need-returns
 returns c =
     let a = c .before .before .before .before .before .before .args in
-    let f = at (a .strings .now) in
+    let f = shown (a .cells .now) in
     let e = entry (a .table .now) in
     c .all-sound .ensures
     ∙ of-three (allSound qubits f e) (c .before .before .before .candidate .ensures .0) (c .before .before .candidate2 .ensures .0) (c .before .candidate3 .ensures .0)
@@ -37,7 +37,7 @@ is-good-requires c κs = search needs
 returns-2 : tie.Need-returns-2
 returns-2 c =
     let a = c .before .before .before .args in
-    c .is-good .ensures ∙ ap (λ (b : Bool). judged b qubits (at (a .strings .now)) (entry (a .table .now)) (a .p)) (sym (c .before .if1 .left))
+    c .is-good .ensures ∙ ap (λ (b : Bool). judged b qubits (shown (a .cells .now)) (entry (a .table .now)) (a .p)) (sym (c .before .if1 .left))
 
 pub is-judged-spec : {M : Type 1} → statement M
 is-judged-spec =

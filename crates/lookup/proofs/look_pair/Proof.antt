@@ -1,4 +1,4 @@
--- `lookup::look_pair` meets its contract: a lookup reads the strings of the natives alone, and these are held. Assumes nothing.
+-- `lookup::look_pair` meets its contract: a lookup reads the strings of the natives alone, and these are what the cells show. Assumes nothing.
 use borrow.Author.Needs.{needs}
 use mathlib.Core.Path.{sym, subst, _∙_}
 use lib.ListN.{length}
@@ -7,8 +7,7 @@ use Prim.Native.Nat.{ℕ}
 use Rattle.pauli_string.specs.Strings.{qubits}
 use Rattle.measurement.specs.Matrices.{side, ofBytes}
 use Rattle.measurement.specs.Measures.{nativeString}
-use Rattle.natives.specs.Arrays.{at}
-use Rattle.natives.proofs.Arrays.{strings-at, strings-held}
+use Rattle.natives.specs.Cells.{shown}
 use Rattle.table.specs.Bytes.{entry}
 use Rattle.lookup.specs.Answers.{Lookup, Leaves, sought}
 use Rattle.lookup.proofs.Same.{sought-same}
@@ -29,29 +28,24 @@ returns c =
     let a = s .args in
     refuses (sought qubits (f s) (entry (a .table .now)) (a .any) (a .p) (length (a .out .now))) NoEntry (a .out .now) (sought-none qubits (f s) (entry (a .table .now)) (a .any) (a .p) (length (a .out .now)) (sym (c .before .is-missing .ensures) ∙ c .if1 .taken))
 
-slice-aggregate-strings-unchecked : tie.Need-slice-aggregate-strings-unchecked
-slice-aggregate-strings-unchecked c = search needs
-
-strings-unchecked-requires : tie.Need-strings-unchecked-requires
-strings-unchecked-requires c κs = search needs
+cells-unchecked-requires : tie.Need-cells-unchecked-requires
+cells-unchecked-requires c κs = search needs
 
 look-sought-requires : tie.Need-look-sought-requires
 look-sought-requires c κs =
-    let s = c .before .before .before .before .before .before .before .before .before .before .before in
-    let u = c .before .before .before .strings-unchecked in
-    ((s .pre .0 .0, s .pre .0 .1, strings-held (ofBytes side (s .args .mx .now)) (ofBytes side (s .args .my .now)) (u .last .1 .1 .0) (u .ensures)), sym (c .before .before .before .before .before .before .is-missing .ensures) ∙ c .before .before .before .before .before .if1 .left)
+    let s = c .before .before .before .before .before .before .before .before .before in
+    ((s .pre .0 .0, s .pre .0 .1, c .before .before .cells-unchecked .ensures .0), sym (c .before .before .before .before .is-missing .ensures) ∙ c .before .before .before .if1 .left)
 
 same-length : tie.Need-same-length
 same-length c = search needs
 
 returns-2 : tie.Need-returns-2
 returns-2 c =
-    let s = c .before .before .before .before .before .before .before .before .before .before .before .before .before .before in
+    let s = c .before .before .before .before .before .before .before .before .before .before .before .before in
     let a = s .args in
     let l = a .out .now in
-    let u = c .before .before .before .before .before .before .strings-unchecked in
-    let same = strings-at (ofBytes side (a .mx .now)) (ofBytes side (a .my .now)) (u .last .1 .1 .0) (u .ensures) in
-    subst (λ (o : Lookup). Leaves o l (c .before .before .look-sought .result) (c .before .before .look-sought .last .1 .1 .1 .1 .0)) (sought-same qubits (at (u .last .1 .1 .0)) (f s) same (entry (a .table .now)) (a .any) (a .p) (length l)) (c .before .before .look-sought .ensures)
+    let u = c .before .before .before .before .before .cells-unchecked in
+    subst (λ (o : Lookup). Leaves o l (c .before .before .look-sought .result) (c .before .before .look-sought .last .1 .1 .1 .1 .0)) (sought-same qubits (shown (u .result)) (f s) (u .ensures .1) (entry (a .table .now)) (a .any) (a .p) (length l)) (c .before .before .look-sought .ensures)
 
 pub look-pair-spec : {M : Type 1} → statement M
 look-pair-spec =
@@ -59,8 +53,7 @@ look-pair-spec =
     (tie.spec
     is-missing-requires
     returns
-    slice-aggregate-strings-unchecked
-    strings-unchecked-requires
+    cells-unchecked-requires
     look-sought-requires
     same-length
     returns-2)

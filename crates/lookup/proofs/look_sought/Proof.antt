@@ -8,7 +8,7 @@ use lib.ListN.{length}
 use borrow.Author.Tests.{not-true, not-false}
 use Rattle.bicycle_common.specs.declared.Refusal.the-variants.{BadEntry}
 use Rattle.pauli_string.specs.Strings.{qubits}
-use Rattle.natives.specs.Arrays.{at}
+use Rattle.natives.specs.Cells.{shown}
 use Rattle.table.specs.Bytes.{entry}
 use Rattle.lookup.specs.Walks.{good, judged, winner}
 use Rattle.lookup.specs.Answers.{Lookup, Leaves, found, sought}
@@ -19,7 +19,7 @@ use Rattle.lookup.proofs.look_sought.Tie as tie
 
 -- the natives' strings and the table's values
 abbrev f : tie.Start → ℕ → ℕ
-f s = at (s .args .strings .now)
+f s = shown (s .args .cells .now)
 
 abbrev e : tie.Start → ℕ → ℕ
 e s = entry (s .args .table .now)

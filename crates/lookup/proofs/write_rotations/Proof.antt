@@ -9,7 +9,8 @@ use lib.ListN.{length, set}
 use lib.Seq.{length-sets, sets}
 use Rattle.bicycle_common.specs.Ranges.{listFrom}
 use Rattle.pauli_string.specs.Strings.{qubits}
-use Rattle.natives.specs.Arrays.{at as string}
+use Rattle.natives.specs.Cells.{shown}
+use Rattle.natives.proofs.Cells.{shown-lt}
 use Rattle.table.specs.Bytes.{entry}
 use Rattle.table.specs.Entries.{depth, named}
 use Rattle.lookup.specs.Walks.{down, rotationAt}
@@ -20,14 +21,14 @@ use Rattle.lookup.proofs.write_rotations.Statement.{statement}
 use Rattle.lookup.proofs.write_rotations.Tie as tie
 
 abbrev Inv-loop : tie.InvT-loop
-Inv-loop table strings p d out₀ at₀ left₀ out at left = (left ≤ d) × (at ≡ down qubits (string strings) (entry table) p (d - left)) × (out ≡ writtenFrom (rotationAt qubits (string strings) (entry table) p) d left out₀)
+Inv-loop table cells p d out₀ at₀ left₀ out at left = (left ≤ d) × (at ≡ down qubits (shown cells) (entry table) p (d - left)) × (out ≡ writtenFrom (rotationAt qubits (shown cells) (entry table) p) d left out₀)
 
 abbrev μ-loop : tie.MeasureT-loop
-μ-loop table strings p d out₀ at₀ left₀ out at left = left
+μ-loop table cells p d out₀ at₀ left₀ out at left = left
 
 -- the natives' strings, the table's values, and the natives of the rotations
 abbrev f : (c : tie.At-loop Inv-loop μ-loop) → ℕ → ℕ
-f c = string (c .before .before .before .args .strings .now)
+f c = shown (c .before .before .before .args .cells .now)
 
 abbrev e : (c : tie.At-loop Inv-loop μ-loop) → ℕ → ℕ
 e c = entry (c .before .before .before .args .table .now)
@@ -42,7 +43,7 @@ g c = rotationAt qubits (f c) (e c) (p c)
 inside : (c : tie.At-loop Inv-loop μ-loop) → c .loop .at < 4 ^ qubits
 inside c =
     let s = c .before .before .before in
-    subst (λ (x : ℕ). x < 4 ^ qubits) (sym (c .loop .inv .1)) (down-string qubits (f c) (e c) (p c) (s .pre .0 .2 .small) (s .pre .0 .1) (s .args .d - c .loop .left))
+    subst (λ (x : ℕ). x < 4 ^ qubits) (sym (c .loop .inv .1)) (down-string qubits (f c) (e c) (p c) (shown-lt (s .args .cells .now)) (s .pre .0 .1) (s .args .d - c .loop .left))
 
 -- its value names a native
 names : (c : tie.After-entry-unchecked Inv-loop μ-loop) → Valid qubits (f (c .before .before)) (c .entry-unchecked .result) (depth (e (c .before .before) (p (c .before .before))) - (c .before .before .before .before .before .args .d - c .before .before .loop .left)) (down qubits (f (c .before .before)) (e (c .before .before)) (p (c .before .before)) (c .before .before .before .before .before .args .d - c .before .before .loop .left))
@@ -59,7 +60,7 @@ loop-holds : tie.Need-loop-holds Inv-loop μ-loop
 loop-holds c =
     let s = c .before .before in
     let z : s .args .d - s .args .d ≡ 0 = omega arith in
-    (omega arith, sym (down-none qubits (string (s .args .strings .now)) (entry (s .args .table .now)) (s .args .p)) ∙ ap (down qubits (string (s .args .strings .now)) (entry (s .args .table .now)) (s .args .p)) (sym z), written-none (rotationAt qubits (string (s .args .strings .now)) (entry (s .args .table .now)) (s .args .p)) (s .args .d) (s .args .out .now))
+    (omega arith, sym (down-none qubits (shown (s .args .cells .now)) (entry (s .args .table .now)) (s .args .p)) ∙ ap (down qubits (shown (s .args .cells .now)) (entry (s .args .table .now)) (s .args .p)) (sym z), written-none (rotationAt qubits (shown (s .args .cells .now)) (entry (s .args .table .now)) (s .args .p)) (s .args .d) (s .args .out .now))
 
 entry-unchecked-requires : tie.Need-entry-unchecked-requires Inv-loop μ-loop
 entry-unchecked-requires c κs = (inside (c .before), c .before .before .before .before .pre .0 .0)

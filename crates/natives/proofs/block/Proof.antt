@@ -1,27 +1,28 @@
 -- `natives::block` meets its contract: the loop writes one string a turn, and leaves those before the block. Assumes nothing.
 use borrow.Author.Needs.{needs}
-use mathlib.Core.Path.{_≡_, refl, _∙_}
+use mathlib.Core.Path.{_≡_, refl, sym, ap, _∙_}
 use Prim.Native.Nat.{ℕ, _+_, _-_, _*_, _<_, _≤_}
 use native.Mathlib.Omega.{arith}
+use lib.Bits.{bitAnd}
 use lib.ListN.{length, length-set}
 use lib.Seq.{getD-set-other}
 use Rattle.natives.specs.Arrays.{at}
-use Rattle.natives.specs.Packed.{wordString}
+use Rattle.natives.specs.Cells.{mask}
 use Rattle.natives.proofs.Grids.{stored-from}
 use Rattle.natives.proofs.block.Statement.{statement}
 use Rattle.natives.proofs.block.Tie as tie
 
 abbrev Inv-loop : tie.InvT-loop
-Inv-loop c w a out₀ k₀ out k = (k ≤ 15) × (length out ≡ 540) × ((t : ℕ) → t < 15 * a → at out t ≡ at out₀ t) × ((j : ℕ) → j < k → at out (15 * a + j) ≡ wordString c w j)
+Inv-loop cell a out₀ k₀ out k = (k ≤ 15) × (length out ≡ 540) × ((t : ℕ) → t < 15 * a → at out t ≡ at out₀ t) × ((j : ℕ) → j < k → at out (15 * a + j) ≡ bitAnd cell (mask j))
 
 abbrev μ-loop : tie.MeasureT-loop
-μ-loop c w a out₀ k₀ out k = 15 - k
+μ-loop cell a out₀ k₀ out k = 15 - k
 
 loop-holds : tie.Need-loop-holds Inv-loop μ-loop
 loop-holds c = (search needs, search needs, λ t h. refl, λ j h. omega arith)
 
-place-requires : tie.Need-place-requires Inv-loop μ-loop
-place-requires c κs = search needs
+mask-requires : tie.Need-mask-requires Inv-loop μ-loop
+mask-requires c κs = search needs
 
 mul-out : tie.Need-mul-out Inv-loop μ-loop
 mul-out c = search needs
@@ -51,7 +52,7 @@ loop-again c =
       search needs,
       simp length-set (omega arith),
       λ t h. getD-set-other (w .out) (15 * g .a + w .k) t _ 0 (λ e. omega arith) ∙ w .inv .2 t h,
-      stored-from (λ (j x : ℕ). x ≡ wordString (g .c) (g .w) j) (w .out) 0 (15 * g .a) (w .k) _ (omega arith) (w .inv .3) (c .place .ensures),
+      stored-from (λ (j x : ℕ). x ≡ bitAnd (g .cell) (mask j)) (w .out) 0 (15 * g .a) (w .k) _ (omega arith) (w .inv .3) (ap (bitAnd (g .cell)) (c .mask .ensures)),
     )
 
 same-length : tie.Need-same-length Inv-loop μ-loop
@@ -60,7 +61,7 @@ same-length c = search needs
 returns : tie.Need-returns Inv-loop μ-loop
 returns c =
     let w = c .before .loop in
-    record { size = w .inv .1; stays = w .inv .2; here = λ j h. w .inv .3 j (omega arith) }
+    record { size = w .inv .1 ∙ sym (c .before .before .before .pre .1); stays = w .inv .2; here = λ j h. w .inv .3 j (omega arith) }
 
 pub block-spec : {M : Type 1} → statement M
 block-spec =
@@ -69,7 +70,7 @@ block-spec =
     Inv-loop
     μ-loop
     loop-holds
-    place-requires
+    mask-requires
     mul-out
     cast-out
     add-out

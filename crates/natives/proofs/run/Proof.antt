@@ -1,34 +1,47 @@
--- `natives::run` meets its contract: each turn stores the word and takes it through r once more. Assumes nothing.
+-- `natives::run` meets its contract: each turn takes the last word one step further. Assumes nothing.
 use borrow.Author.Needs.{needs}
-use mathlib.Core.Path.{_≡_, refl, ap, _∙_}
+use mathlib.Core.Path.{_≡_, refl, _∙_}
 use Prim.Native.Nat.{ℕ, _-_, _<_, _≤_}
 use native.Mathlib.Omega.{arith}
 use lib.ListN.{length, length-set, getD}
-use native.Mathlib.Numerals.{add-one}
 use Rattle.bicycle_common.proofs.Ranges.{stored-more}
 use Rattle.natives.specs.Arrays.{at}
-use Rattle.natives.specs.Packed.{combined, iterated}
+use Rattle.natives.specs.Packed.{walked}
+use Rattle.natives.proofs.Words.{walked-first, walked-lt, walked-next}
 use Rattle.natives.proofs.run.Statement.{statement}
 use Rattle.natives.proofs.run.Tie as tie
 
 abbrev Inv-loop : tie.InvT-loop
-Inv-loop v r out₀ cur₀ i₀ out cur i = (i ≤ 6) × (length out ≡ 6) × (cur ≡ iterated 6 (at r) v i) × ((t : ℕ) → t < i → getD out t 0 ≡ iterated 6 (at r) v t)
+Inv-loop v lo hi out₀ i₀ out i = (1 ≤ i) × (i ≤ 6) × (length out ≡ 6) × ((t : ℕ) → t < i → getD out t 0 ≡ walked lo hi v t)
 
 abbrev μ-loop : tie.MeasureT-loop
-μ-loop v r out₀ cur₀ i₀ out cur i = 6 - i
+μ-loop v lo hi out₀ i₀ out i = 6 - i
 
 loop-holds : tie.Need-loop-holds Inv-loop μ-loop
-unfolding iterated
-loop-holds c = (search needs, refl, refl, λ t h. omega arith)
+loop-holds c = let g = c .args in (omega arith, omega arith, refl, λ t h. walked-first (g .lo .now) (g .hi .now) (g .v) t h)
+
+sub-last : tie.Need-sub-last Inv-loop μ-loop
+sub-last c = search needs
+
+mul-last : tie.Need-mul-last Inv-loop μ-loop
+mul-last c = search needs
+
+array-read-last : tie.Need-array-read-last Inv-loop μ-loop
+array-read-last c = search needs
+
+step-requires : tie.Need-step-requires Inv-loop μ-loop
+step-requires c κs =
+    let w = c .before .loop in
+    let s = c .before .before in
+    let g = s .args in
+    let e = w .inv .3 (w .i - 1) (omega arith) in
+    (s .pre .1 .0, s .pre .2 .0, omega (arith, e, walked-lt (g .lo .now) (g .hi .now) (s .pre .1) (s .pre .2) (g .v) (s .pre .0) (w .i - 1)))
 
 mul-out : tie.Need-mul-out Inv-loop μ-loop
 mul-out c = search needs
 
 array-write-out : tie.Need-array-write-out Inv-loop μ-loop
 array-write-out c = search needs
-
-combined-requires : tie.Need-combined-requires Inv-loop μ-loop
-combined-requires c κs = c .before .before .pre
 
 add-i : tie.Need-add-i Inv-loop μ-loop
 add-i c = search needs
@@ -37,14 +50,14 @@ loop-less : tie.Need-loop-less Inv-loop μ-loop
 loop-less c = search needs
 
 loop-again : tie.Need-loop-again Inv-loop μ-loop
-unfolding iterated
 loop-again c =
     let w = c .before .before .loop in
     let g = c .before .before .before .args in (
+      omega arith,
       search needs,
       simp length-set (omega arith),
-      rw add-one (c .combined .ensures ∙ ap (combined 6 (at (g .r))) (w .inv .2)),
-      stored-more (λ (t x : ℕ). x ≡ iterated 6 (at (g .r)) (g .v) t) (w .out) 0 (w .i) _ (omega arith) (w .inv .3) (w .inv .2),
+      stored-more (λ (t x : ℕ). x ≡ walked (g .lo .now) (g .hi .now) (g .v) t) (w .out) 0 (w .i) _ (omega arith) (w .inv .3)
+          (c .step .ensures ∙ walked-next (g .lo .now) (g .hi .now) (g .v) (w .i) (at (w .out) (w .i - 1)) (omega arith) (w .inv .3 (w .i - 1) (omega arith))),
     )
 
 returns : tie.Need-returns Inv-loop μ-loop
@@ -57,9 +70,12 @@ run-spec =
     Inv-loop
     μ-loop
     loop-holds
+    sub-last
+    mul-last
+    array-read-last
+    step-requires
     mul-out
     array-write-out
-    combined-requires
     add-i
     loop-less
     loop-again
