@@ -30,6 +30,10 @@ pub flag-le : (b : Bool) → flag b ≤ 1
 flag-le true = omega arith
 flag-le false = omega arith
 
+pub flag-none : (b : Bool) → flag b ≡ 0 → b ≡ false
+flag-none true h = absurd (omega arith)
+flag-none false h = refl
+
 pub xOf-lt : (l : Pauli) → xOf l < 2
 xOf-lt l = ltb→lt (xOf l) 2 (at-letter (λ a. ltb (xOf a) 2) tt l)
 

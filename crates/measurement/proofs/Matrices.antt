@@ -16,7 +16,7 @@ use Rattle.bicycle_common.specs.Letters.{flag}
 use Rattle.bicycle_common.specs.Automorphisms.{component}
 use Rattle.bicycle_common.specs.Ranges.{sum, allBelow}
 use Rattle.bicycle_common.proofs.Ranges.{sum-same, sum-terms-zero, sum-pos, all-below, all-true, all-false, all-same, length-from, listed-at}
-use Rattle.bicycle_common.proofs.Letters.{flag-le}
+use Rattle.bicycle_common.proofs.Letters.{flag-le, flag-none}
 use Rattle.measurement.specs.Matrices.{side, Matrix, ofRows, byRows, ofBytes, one, mul, pow, isBinary, isBytes, overs, Binary, Same}
 use Rattle.measurement.specs.Measures.{action, packed}
 
@@ -128,10 +128,6 @@ bytes-false m t ht h =
 
 pub bytes-short : (m : List ℕ) → (length m ≡ 36 → ⊥) → isBytes side m ≡ false
 bytes-short m h = ap (λ (b : Bool). b && isBinary 6 (ofBytes 6 m)) (ne-eqb (length m) 36 h)
-
-flag-none : (b : Bool) → flag b ≡ 0 → b ≡ false
-flag-none true h = absurd (omega arith)
-flag-none false h = refl
 
 flag-some : (b : Bool) → 0 < flag b → b ≡ true
 flag-some true h = refl

@@ -1,6 +1,6 @@
 -- Chained buckets find each native's next equal: the walk along a chain meets every greater native with the same string. And a count of 0 or
 -- 1 says where a number stands. Assumes nothing.
-use mathlib.Core.Bool.{Bool, true, false}
+use mathlib.Core.Bool.{true}
 use mathlib.Core.List.{List}
 use mathlib.Core.Logic.{⊎-elim}
 use mathlib.Core.Path.{_≡_, refl, sym, ap, _∙_, subst}
@@ -13,7 +13,7 @@ use borrow.Author.Tests.{eqb-false, eq-eqb}
 use Rattle.bicycle_common.specs.Letters.{flag}
 use Rattle.bicycle_common.proofs.Ranges.{lt-or-ge, stored-at, sum-next, sum-le, sum-terms-zero}
 use Rattle.bicycle_common.specs.Ranges.{sum}
-use Rattle.bicycle_common.proofs.Letters.{flag-le}
+use Rattle.bicycle_common.proofs.Letters.{flag-le, flag-none}
 use Rattle.native_measurement.specs.Natives.{natives}
 use Rattle.natives.specs.Kept.{kept}
 use Rattle.natives.specs.Arrays.{at}
@@ -86,15 +86,11 @@ occurrences-more f v from m h =
 pub occurrences-le : (f : ℕ → ℕ) (v from k : ℕ) → occurrences f v from k ≤ k
 occurrences-le f v from k = sum-le k _ (λ j h. flag-le (eqb (f (from + j)) v))
 
-flag-zero : (b : Bool) → flag b ≡ 0 → b ≡ false
-flag-zero true h = absurd (omega arith)
-flag-zero false h = refl
-
 -- v stands nowhere
 pub none-there : (f : ℕ → ℕ) (v from to : ℕ) → occurrences f v from (to - from) ≡ 0 → (m : ℕ) → from ≤ m → m < to → f m ≡ v → ⊥
 none-there f v from to z m l h e =
     let i : from + (m - from) ≡ m = omega arith in
-    eqb-false (f (from + (m - from))) v (flag-zero _ (sum-terms-zero (to - from) (λ (j : ℕ). flag (eqb (f (from + j)) v)) z (m - from) (omega arith))) (ap f i ∙ e)
+    eqb-false (f (from + (m - from))) v (flag-none _ (sum-terms-zero (to - from) (λ (j : ℕ). flag (eqb (f (from + j)) v)) z (m - from) (omega arith))) (ap f i ∙ e)
 
 one-place : (n : ℕ) (F : ℕ → ℕ) (i : ℕ) → i < n → F i ≡ 1 → 1 ≤ sum n F
 one-place n F i h e =
