@@ -31,6 +31,9 @@ ghost use Rattle.table_check.specs.Tests.{Decides, Readable, Packs, Pack
 // The height of a string without an entry: above the depth of every value by two or more
 const GAP: u32 = 4194305;
 
+// To follow the rotations of so few strings takes less than to look for a better top
+const FEW: u32 = 131072;
+
 // What the check says of a table: that every index meets its rule, or the lowest index that breaks it.
 pub enum CheckAnswer {
     Accepted,
@@ -350,11 +353,15 @@ fn work(table: &[u8], top: u32) -> u32
     n
 }
 
-// A top with little work: the lowest that the next does not better, or, where few strings have entries, above all. The
+// A top with little work: above all where few strings have entries, else the lowest that the next does not better. The
 // steps are bounded, since damaged bytes may ask for thousands.
 fn best_top(table: &[u8]) -> u32
     requires { ⌜ length (now table) ≡ tableLength qubits ⌝ }
 {
+    let entries = work(table, GAP);
+    if entries < FEW {
+        return GAP;
+    }
     let mut top: u32 = 1;
     let mut least = work(table, 1);
     let mut next = work(table, 2);
@@ -366,7 +373,7 @@ fn best_top(table: &[u8]) -> u32
         least = next;
         next = work(table, top + 1);
     }
-    if work(table, GAP) < least {
+    if entries < least {
         return GAP;
     }
     top
