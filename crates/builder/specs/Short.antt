@@ -1,5 +1,6 @@
--- The queue while it is short: its last two mebibytes hold a digit for each string, which is 1 where the string has an entry. Assumes
--- nothing.
+-- The queue while it is short: its last two mebibytes hold a digit for each string, which is 1 where the string has an entry. Before them are
+-- 67,108,864 - 2,097,152 = 65,011,712 bytes: room for 16,252,928 strings, and the first digit is that of number 8 · 65,011,712 = 520,093,696.
+-- Assumes nothing.
 use mathlib.Core.Bool.{Bool, true, cond}
 use mathlib.Core.List.{List, _++_}
 use mathlib.Core.Path.{_≡_}

@@ -46,7 +46,8 @@ const FOUND: u32 = 16700000;
 
 const TURNS: u32 = 131072;
 
-// While the queue holds no more strings than this, a turn leaves its last two mebibytes free
+// While the queue holds no more strings than this, a turn leaves its last two mebibytes free: from byte 65011712 on, which
+// is to say from digit 520093696 on
 const SHORT: u32 = 16252388;
 
 // What was reached in the queue: the next place, and how many strings it holds.
