@@ -71,7 +71,7 @@ pub struct LettersAnswer {
     pub letters: [Letter; 12],
 }
 
-// The text of a string, qubit 11 first; all zeros on a refusal.
+// The text of a string, qubit 11 first and qubit 0 last, in every language; all zeros on a refusal.
 pub struct TextAnswer {
     pub outcome: Outcome,
     pub bytes: [u8; 12],
@@ -334,7 +334,7 @@ impl PauliString {
         StringAnswer::Refused(Refusal::StringRange)
     }
 
-    // The string of twelve letters, qubit 0 first.
+    // The string of twelve letters, qubit 0 first: the order of text backwards.
     pub fn from_letters(value: [Pauli; 12]) -> PauliString
         ensures { λ r. ⌜ r .0 ≡ stringOf qubits value ⌝ }
     {
@@ -362,7 +362,7 @@ impl PauliString {
         out
     }
 
-    // The letters of the string, qubit 0 first.
+    // The letters of the string, qubit 0 first: the order of text backwards.
     pub fn letters(self) -> LettersAnswer
         ensures { λ r. ⌜ r ≡ toLetters qubits (self .0) ⌝ }
     {
@@ -392,7 +392,7 @@ impl PauliString {
         out
     }
 
-    // The text of the string, qubit 11 first, in capitals.
+    // The text of the string, qubit 11 first and qubit 0 last, in capitals. It is data, and is never mirrored.
     pub fn display(self) -> TextAnswer
         ensures { λ r. ⌜ r ≡ printed qubits (self .0) ⌝ }
     {
@@ -409,7 +409,8 @@ impl PauliString {
         }
     }
 
-    // The string that twelve letters of text spell, qubit 11 first, in either case.
+    // The string that twelve letters of text spell, qubit 11 first and qubit 0 last, in either case. Nothing in a text says
+    // its direction: backwards it is read too, and is another string unless the letters form a palindrome.
     pub fn from_text(text: &[u8]) -> StringAnswer
         ensures { λ r. ⌜ r ≡ readText qubits (now (text .entry)) ⌝ }
     {
