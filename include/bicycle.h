@@ -14,9 +14,11 @@
  * Y; qubit 0 is the pivot. A native is a number below 540. A matrix is 36 bytes 0 or 1, by rows. A
  * table, and a queue, has 67,108,864 bytes: four for each string, low byte first.
  *
- * Text. Twelve letters I X Z Y, qubit 11 first and the pivot last, in every language: it is never
- * mirrored. In a right-to-left page it is shown as an isolated left-to-right run, and the letters
- * are not translated. No text ends in a zero byte: its length is answered.
+ * Text. Twelve letters I X Z Y, qubit 11 first and qubit 0, the pivot, last, in every language. It
+ * is data: it is never mirrored, and its letters are not translated. Backwards it is another
+ * string, unless it is a palindrome, and it is not refused. In a right-to-left page it is shown as
+ * isolated left-to-right text, and it is read without the marks that isolate it: docs/STRINGS.md.
+ * No text ends in a zero byte: its length is answered.
  *
  * The refusals:
  *    1  table length is not 67,108,864
@@ -138,18 +140,24 @@ bicycle_value_result bicycle_cost(const uint8_t *table, size_t table_len, uint32
 bicycle_value_result bicycle_measures(
     const uint8_t *mx, size_t mx_len, const uint8_t *my, size_t my_len, uint32_t n);
 
-/* Writes the three instructions of native n, as `aut(4,5) meas(X,Z) aut(2,1)`; refuses 9, 11. */
+/*
+ * Writes the three instructions of native n, as `aut(4,5) meas(X,Z) aut(2,1)`: of the two letters
+ * the first is that of qubit 0, the second that of qubit 6; refuses 9, 11.
+ */
 bicycle_text_result bicycle_native_instructions(uint32_t n, uint8_t *out, size_t out_len);
 
-/* Writes the five instructions of native n as a rotation; refuses 3, 9, 10, 11. */
+/* Writes the five instructions of native n as a rotation, in this form; refuses 3, 9, 10, 11. */
 bicycle_text_result bicycle_rotation_instructions(
     const uint8_t *mx, size_t mx_len, const uint8_t *my, size_t my_len,
     uint32_t n, uint8_t *out, size_t out_len);
 
-/* The string that twelve letters spell, qubit 11 first, in either case; refuses 13. */
+/*
+ * The string that twelve letters spell, qubit 11 first and qubit 0 last, in either case. A mirrored
+ * text is read too, as another string: compare the value with the one meant; refuses 13.
+ */
 bicycle_value_result bicycle_from_text(const uint8_t *text, size_t text_len);
 
-/* Writes the twelve letters of string p, qubit 11 first, in capitals; refuses 4, 9. */
+/* Writes the letters of string p, qubit 11 first and qubit 0 last, in capitals; refuses 4, 9. */
 bicycle_text_result bicycle_display(uint32_t p, uint8_t *out, size_t out_len);
 
 /* Whether the strings commute, as 1 or 0; refuses 4. */
@@ -158,7 +166,10 @@ bicycle_value_result bicycle_commutes_with(uint32_t p, uint32_t q);
 /* String p, multiplied by q if the two anticommute; refuses 4. */
 bicycle_value_result bicycle_conjugate_with(uint32_t p, uint32_t q);
 
-/* Writes all that the program `plan` prints for an input, its lines `refused=N` too; refuses 9. */
+/*
+ * Writes all that the program `plan` prints for an input, its lines `refused=N` too. The line
+ * `measures=` has a text, qubit 11 first; refuses 9.
+ */
 bicycle_text_result bicycle_list(
     const uint8_t *input, size_t input_len, uint8_t *out, size_t out_len);
 

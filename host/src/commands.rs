@@ -80,7 +80,9 @@ pub fn check(words: &Words) -> Told {
             let text = written(|out| bicycle::display(index, out))?;
             Err(Stop::Refused {
                 lines: format!("rejected={index}\n"),
-                sentence: format!("The entry of {text} is the first that breaks its rule."),
+                sentence: format!(
+                    "The entry of {text}, qubit 11 first, is the first that breaks its rule."
+                ),
             })
         }
     }

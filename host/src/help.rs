@@ -58,6 +58,7 @@ pub static FORMS: [Form; 5] = [
 pub fn printed(page: &str) -> String {
     page.replace("{pair}\n", include_str!("help/pair.txt"))
         .replace("{text}\n", include_str!("help/text.txt"))
+        .replace("{instructions}\n", include_str!("help/instructions.txt"))
 }
 
 /// The first paragraph of a page.

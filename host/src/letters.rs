@@ -7,7 +7,8 @@ use bicycle::QUBITS;
 
 use crate::told::Stop;
 
-/// The string that a text spells, qubit 11 first, in either case.
+/// The string that a text spells, qubit 11 first and qubit 0 last, in either case. A text that was
+/// mirrored is read too, as another string: nothing in it says its direction.
 pub fn read(text: &OsStr) -> Result<u32, Stop> {
     bicycle::from_text(text.as_bytes())
         .map_err(|r| Stop::refused(r, trouble(&text.to_string_lossy())))
@@ -20,7 +21,9 @@ fn trouble(text: &str) -> String {
         Some((i, c)) => format!("character {i} is {}", named(c)),
         None => format!("here are {}", text.len()),
     };
-    format!("A text is {QUBITS} letters of I, X, Z and Y alone, qubit 11 first: {here}.")
+    format!(
+        "A text is {QUBITS} letters of I, X, Z and Y alone, qubit 11 first and qubit 0 last: {here}."
+    )
 }
 
 /// A character by its code where it might not be seen, or turn the line around.
@@ -44,13 +47,13 @@ mod tests {
             let sentence = trouble(text);
             assert!(sentence.ends_with(end), "{sentence}");
         };
-        says("", "first: here are 0.");
-        says("IIIIIIIIIIIII", "first: here are 13.");
-        says("IIIIXYIIIIA", "first: character 11 is 'A'.");
-        says("IIIIXYIIIII ", "first: character 12 is U+0020.");
+        says("", "last: here are 0.");
+        says("IIIIIIIIIIIII", "last: here are 13.");
+        says("IIIIXYIIIIA", "last: character 11 is 'A'.");
+        says("IIIIXYIIIII ", "last: character 12 is U+0020.");
         // a letter of another alphabet that looks like X
-        says("IIII\u{425}YIIIIIX", "first: character 5 is U+0425.");
-        let mark = "first: character 1 is U+202E, an invisible mark of direction.";
+        says("IIII\u{425}YIIIIIX", "last: character 5 is U+0425.");
+        let mark = "last: character 1 is U+202E, an invisible mark of direction.";
         says("\u{202e}XIIIIIYXIIII", mark);
     }
 }

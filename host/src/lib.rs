@@ -2,9 +2,13 @@
 //!
 //! Names are those of the Rattle crates and of the original. A call that refuses answers `Refused`,
 //! with document 01's number, and has written nothing. Strings and natives are numbers: `p` and `q`
-//! stand for strings, below `STRINGS`, and `n` for a native, below `NATIVES`. Matrices are passed
-//! as 36 bytes 0 or 1, by rows. A text of twelve letters has qubit 11 first and is never mirrored:
-//! in a right-to-left page it is shown as an isolated left-to-right run.
+//! stand for strings, below `STRINGS`, and `n` for a native, below `NATIVES`. Bit i of a string is
+//! X on qubit i, bit 12 + i is Z, both are Y. Matrices are passed as 36 bytes 0 or 1, by rows.
+//!
+//! A text of twelve letters has qubit 11 first and qubit 0, the pivot, last, in every language. It
+//! is data: it is never mirrored, and its letters are not translated. Backwards it is another
+//! string, unless it is a palindrome, and it is not refused. In a right-to-left page it is shown as
+//! isolated left-to-right text, and it is read without the marks that isolate it: docs/STRINGS.md.
 
 pub mod ffi;
 pub mod pair;
@@ -196,12 +200,14 @@ pub fn measures(mx: &[u8], my: &[u8], n: u32) -> Result<u32, Refused> {
     value(ffi::measures(mx, my, n))
 }
 
-/// Writes the three instructions of native n, and answers how many bytes these are.
+/// Writes the three instructions of native n, and answers how many bytes these are. In `meas(X,Z)`
+/// the first letter is that of qubit 0, the second that of qubit 6.
 pub fn native_instructions(n: u32, out: &mut [u8]) -> Result<usize, Refused> {
     length(ffi::native_instructions(n, out))
 }
 
-/// Writes the five instructions of native n as a rotation, and answers how many bytes these are.
+/// Writes the five instructions of native n as a rotation, and answers how many bytes these are;
+/// their letters are as in `native_instructions`.
 pub fn rotation_instructions(
     mx: &[u8],
     my: &[u8],
@@ -211,12 +217,14 @@ pub fn rotation_instructions(
     length(ffi::rotation_instructions(mx, my, n, out))
 }
 
-/// The string that twelve letters spell, qubit 11 first, in either case.
+/// The string that twelve letters spell, qubit 11 first and qubit 0 last, in either case. A text
+/// that was mirrored is read too, as another string: compare its number with the one meant.
 pub fn from_text(text: &[u8]) -> Result<u32, Refused> {
     value(ffi::from_text(text))
 }
 
-/// Writes the twelve letters of string p, qubit 11 first, in capitals.
+/// Writes the twelve letters of string p, qubit 11 first and qubit 0 last, in capitals. They are
+/// data, and are never mirrored.
 pub fn display(p: u32, out: &mut [u8]) -> Result<usize, Refused> {
     length(ffi::display(p, out))
 }
@@ -232,7 +240,7 @@ pub fn conjugate_with(p: u32, q: u32) -> Result<u32, Refused> {
 }
 
 /// Writes all that the program `plan` prints for a plan on paper, a line `refused=N` too, and
-/// answers how many bytes these are.
+/// answers how many bytes these are. Its line `measures=` has a text, qubit 11 first.
 pub fn list(input: &[u8], out: &mut [u8]) -> Result<usize, Refused> {
     length(ffi::list(input, out))
 }

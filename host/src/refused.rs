@@ -46,7 +46,7 @@ impl Refused {
             Self::STRING_RANGE => "A string is a number below 16,777,216.",
             Self::IDENTITY => "The identity is no measurement, and has no plan.",
             Self::PIVOT_SET => {
-                "A pivot-free lookup takes a string whose last letter, the pivot's, is I."
+                "A pivot-free lookup takes I on the pivot, qubit 0, which is the last letter of a text."
             }
             Self::NO_ENTRY => "The table has no plan for this string.",
             Self::BAD_ENTRY => "The table is damaged, or was built for other matrices.",
@@ -58,7 +58,9 @@ impl Refused {
             Self::PLAN => {
                 "A plan is lines mx=, my=, base=, then 0 to 256 of rotation=, and this is none."
             }
-            Self::NOT_LETTERS => "A text is twelve letters of I, X, Z and Y, qubit 11 first.",
+            Self::NOT_LETTERS => {
+                "A text is twelve letters of I, X, Z and Y, qubit 11 first and qubit 0 last."
+            }
             Self::QUBIT_RANGE => "A qubit is a number from 0 to 11.",
             _ => "The library refused this for a reason unknown here.",
         }

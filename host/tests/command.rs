@@ -161,50 +161,119 @@ impl Ran {
     }
 }
 
-/// Every example of every page prints what the page says. The first lookup builds gross, and so
-/// does the example of `build`.
+/// The words that print the pages of help.
+const HELP: [&str; 6] = [
+    "--help",
+    "build --help",
+    "check -h",
+    "lookup --help",
+    "native -h",
+    "plan -h",
+];
+
+/// Every example of every page of help, and of the page about strings, prints what the page says.
+/// The first lookup builds gross, and so does the example of `build`.
 #[test]
 fn examples() {
     let user = User::new("examples");
-    let mut count = 0;
-    for page in [
-        "--help",
-        "build --help",
-        "check -h",
-        "lookup --help",
-        "native -h",
-        "plan -h",
-    ] {
-        let help = user.run_line(page);
+    let mut pages = vec![];
+    for words in HELP {
+        let help = user.run_line(words);
         assert_eq!((&help.err[..], help.status), ("", 0));
         assert!(help.out.starts_with("Usage: bicycle "));
         assert!(!help.out.contains(['{', '}']), "{}", help.out);
-        for (line, shown) in examples_of(&help.out) {
+        pages.push(help.out);
+    }
+    pages.push(include_str!("../../docs/STRINGS.md").into());
+    let mut counts = vec![];
+    for page in &pages {
+        let examples = examples_of(page);
+        counts.push(examples.len());
+        for (line, shown) in examples {
             match line.split_once(' ').unwrap() {
                 ("cat", file) => fs::write(user.path(file), shown).unwrap(),
                 ("bicycle", words) => user.run_line(words).answers(&shown),
                 _ => panic!("{line}"),
             }
-            count += 1;
         }
     }
-    assert_eq!(count, 8);
+    assert_eq!(counts, [1, 1, 1, 2, 1, 2, 3]);
     let kept = fs::read(user.path(".cache/bicycle/gross.table")).unwrap();
     assert!(kept == fs::read(user.path("gross.table")).unwrap());
 }
 
-/// The commands of a page behind `$`, each with the lines that it prints.
+/// The commands of a page behind `$`, each with the lines that it prints, all of them indented.
 fn examples_of(page: &str) -> Vec<(&str, String)> {
-    let (_, examples) = page.split_once("Example").unwrap();
-    let (_, examples) = examples.split_once('\n').unwrap();
     let mut found: Vec<(&str, String)> = vec![];
-    for line in examples.lines() {
-        match line.strip_prefix("  $ ") {
+    let blocks = page.split("\n\n").filter(|block| block.contains("  $ "));
+    for line in blocks.flat_map(str::lines).filter(|l| l.starts_with("  ")) {
+        match line.trim_start().strip_prefix("$ ") {
             Some(command) => found.push((command, String::new())),
             None => found.last_mut().unwrap().1 += &(line.trim_start().to_owned() + "\n"),
         }
     }
     found
+}
+
+/// Every page of help says which end of a text is qubit 0, that a text is data, and what to do with
+/// it in a right-to-left page; and where there are instructions, whose letter is first.
+#[test]
+fn pages_say_the_direction() {
+    let user = User::new("direction");
+    for words in HELP {
+        let page = user.run_line(words).out.replace('\n', " ");
+        for said in [
+            "twelve letters, qubit 11 first and qubit 0, the pivot, last, in every language",
+            "XIIIIIIIIIII is 2048, and IIIIIIIIIIIX is 1.",
+            "never mirrored, and its letters are not translated",
+            "In a right-to-left page isolate a text, and each line of an answer, as left-to-right",
+            "docs/STRINGS.md",
+        ] {
+            assert!(page.contains(said), "{words}: {said}");
+        }
+        let shown = page.contains("expand=");
+        let said = page.contains("In an instruction meas(X,Z) qubit 0 comes first");
+        assert_eq!(shown, said, "{words}");
+    }
+}
+
+/// What stands where a letter is due after a paste or a change of case, and is none.
+#[test]
+fn no_letters() {
+    let user = User::new("no-letters");
+    let refused = |text: &str, place: usize, c: char, end: &str| {
+        let here = format!("character {place} is U+{:04X}{end}", c as u32);
+        user.run(&["lookup", text]).refuses(13, &here);
+    };
+    // in front and behind, as a right-to-left pack puts them
+    for mark in ['\u{61c}', '\u{200e}', '\u{200f}']
+        .into_iter()
+        .chain('\u{202a}'..='\u{202e}')
+        .chain('\u{2066}'..='\u{2069}')
+    {
+        let end = ", an invisible mark of direction.";
+        refused(&format!("{mark}IIIIXYIIIIIX"), 1, mark, end);
+        refused(&format!("IIIIXYIIIIIX{mark}"), 13, mark, end);
+    }
+    // I by the Turkish rules of case; I, X, Z and Y as Greek, as Cyrillic, as full-width letters
+    // and as Roman numerals
+    let others = "\u{131}\u{130}\u{399}\u{3a7}\u{396}\u{3a5}\u{406}\u{425}\u{4ae}\
+                  \u{ff29}\u{ff38}\u{ff3a}\u{ff39}\u{2160}\u{2169}";
+    for other in others.chars() {
+        refused(&format!("IIII{other}YIIIIIX"), 5, other, ".");
+        let twelve_bytes = format!("IIII{other}{}", &"YIIIIIX"[other.len_utf8() - 1..]);
+        assert_eq!(twelve_bytes.len(), 12);
+        refused(&twelve_bytes, 5, other, ".");
+    }
+    // a sign and Stim's identity; a phase of Qiskit's makes a text too long
+    let look = |text: &str| user.run(&["lookup", "--", text]);
+    look("-XYIIIIIIIII").refuses(13, "character 1 is '-'.");
+    look("+X_____YX____").refuses(13, "character 1 is '+'.");
+    look("X_____YX____").refuses(13, "character 2 is '_'.");
+    look("iIIIIXYIIIIIX").refuses(13, "here are 13.");
+    look("IIIIXYIIIIIX\n").refuses(13, "character 13 is U+000A.");
+    look("IIIIXYIIIII").refuses(13, "here are 11.");
+    assert!(user.names().is_empty(), "no table is built for these");
 }
 
 #[test]
@@ -289,14 +358,14 @@ fn lookups() {
         "measures=IIIIXYIIIIIZ\ncount=0\nshifts=2\nbase=535\nexpand=aut(5,5) meas(Z,Y) aut(1,1)\n",
     );
     look(&["IIIIIIIIIIII"]).refuses(5, "identity");
-    look(&["IIIIXYIIIIIX", "--pivot-free"]).refuses(6, "pivot");
+    look(&["IIIIXYIIIIIX", "--pivot-free"]).refuses(6, "qubit 0, which is the last letter");
+    // mirrored it is another string, which has no plan with these matrices
+    look(&["XIIIIIYXIIII"]).refuses(7, "no plan");
     look(&["YYYYYYYYYYYY"]).refuses(7, "no plan");
     look(&["YYYYYYYYYYYI", "--pivot-free"]).refuses(7, "no plan");
-    look(&[""]).refuses(13, "here are 0");
+    look(&[""]).refuses(13, "qubit 11 first and qubit 0 last: here are 0.");
     look(&["IIIIXYIIIIIXI"]).refuses(13, "here are 13");
     look(&["IIIIXYIIIII1"]).refuses(13, "character 12 is '1'.");
-    look(&["\u{202e}XIIIIIYXIIII"])
-        .refuses(13, "character 1 is U+202E, an invisible mark of direction.");
     let mut raw = user.command();
     ran(raw.arg("lookup").arg(OsStr::from_bytes(b"\xffIIIXYIIIIIX"))).refuses(13, "character 1 ");
     let two = PLAN_MX.replacen('1', "2", 1);
@@ -468,7 +537,7 @@ fn tables_are_read() {
     // for other matrices the entry of string 1 is the first that is wrong
     let rejected = user.run(&["check", "t"]);
     assert_eq!((&rejected.out[..], rejected.status), ("rejected=1\n", 1));
-    rejected.says("IIIIIIIIIIIX");
+    rejected.says("The entry of IIIIIIIIIIIX, qubit 11 first,");
     user.run(&["lookup", "IIIIXYIIIIIX", "--table", "t"])
         .refuses(8, "other matrices");
 

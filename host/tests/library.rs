@@ -57,6 +57,38 @@ fn text() {
     assert_eq!(written(|out| bicycle::display(STRINGS, out)), refused(4));
 }
 
+/// A text backwards is read too, and is another string unless its letters form a palindrome.
+#[test]
+fn mirrored_text() {
+    let mirrored = |text: &str| {
+        let backwards: Vec<u8> = text.bytes().rev().collect();
+        bicycle::from_text(&backwards)
+    };
+    for (text, number, backwards) in [
+        ("XIIIIIIIIIII", 2048, 1),
+        ("IIIIXYIIIIIX", 262337, 133168),
+        ("XIIIIIIIIIIX", 2049, 2049),
+        // eleven letters behind one that is no phase here
+        ("iXYIIIIIIIII", 2_098_688, 16390),
+    ] {
+        assert_eq!(bicycle::from_text(text.as_bytes()), Ok(number));
+        assert_eq!(mirrored(text), Ok(backwards));
+    }
+    for p in (0..STRINGS).step_by(997) {
+        let text = written(|out| bicycle::display(p, out)).unwrap();
+        assert_eq!(bicycle::from_text(text.as_bytes()), Ok(p));
+        assert_eq!(mirrored(&text), Ok(mirror(p)));
+        let palindrome = text.bytes().eq(text.bytes().rev());
+        assert_eq!(mirror(p) == p, palindrome, "{text}");
+    }
+}
+
+/// The string with its letters in reverse order, which are the digits of each half.
+fn mirror(p: u32) -> u32 {
+    let half = |digits: u32| (digits & 0xfff).reverse_bits() >> 20;
+    half(p >> 12) << 12 | half(p)
+}
+
 #[test]
 fn letters() {
     let letters = [
