@@ -1,6 +1,6 @@
 -- Shift automorphisms are a commutative group: each law is arithmetic modulo 6 in both components. Assumes nothing.
 use mathlib.Core.Path.{_≡_, ap₂}
-use Prim.Native.Nat.{ℕ, _-_}
+use Prim.Native.Nat.{ℕ}
 use native.Mathlib.Omega.{arith}
 use Rattle.bicycle_common.specs.declared.AutomorphismData.{AutomorphismData}
 use Rattle.bicycle_common.specs.Automorphisms.{ofPair, product, inverse}

@@ -98,13 +98,6 @@ read-capital X = refl
 read-capital Z = refl
 read-capital Y = refl
 
-pub read-small : (l : Pauli) → readLetter (small l) ≡ Is l
-unfolding readLetter
-read-small I = refl
-read-small X = refl
-read-small Z = refl
-read-small Y = refl
-
 -- b stands for l where it is l's capital or l's small letter
 stands-for : (b : ℕ) (l : Pauli) → standsFor b l ≡ true → (b ≡ capital l) ⊎ (b ≡ small l)
 stands-for b l e = go (eqb b (capital l)) refl e

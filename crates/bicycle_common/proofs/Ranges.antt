@@ -2,15 +2,15 @@
 use mathlib.Core.Path.{_≡_, refl, sym, ap, ap₂, subst, _∙_}
 use mathlib.Core.Logic.{⊎-elim, _⊎_, inl, inr}
 use mathlib.Core.Bool.{Bool, true, false, _&&_, and-false}
-use mathlib.Core.List.{List, [], _∷_}
-use Prim.Native.Nat.{ℕ, zero, suc, _+_, _<_, _≤_, max, suc-le-suc}
-use native.Mathlib.Nat.{not-suc-le-zero, le-of-suc-le-suc, eq-or-lt-of-le, zero-lt-suc, add-zero, add-suc, suc-add, zero-add}
+use mathlib.Core.List.{List}
+use Prim.Native.Nat.{ℕ, zero, suc, _+_, _<_, _≤_, max}
+use native.Mathlib.Nat.{not-suc-le-zero, le-of-suc-le-suc, eq-or-lt-of-le, add-zero, add-suc, suc-add, zero-add}
 use native.Mathlib.Numerals.{add-one}
 use native.Mathlib.Decide.{ℕ-discrete}
 use native.Mathlib.Omega.{arith}
 use lib.Dec.{T, eqb, ltb}
 use lib.ListN.{length, getD, set}
-use lib.Seq.{getD-set-same, getD-set-other}
+use lib.Seq.{ext-getD, getD-set-same, getD-set-other}
 use borrow.Author.Tests.{ltb-true, ltb-false, eqb-true, eqb-false}
 use Rattle.bicycle_common.specs.Ranges.{sum, most, allBelow, listFrom, listed, inTurn}
 use Rattle.bicycle_common.proofs.Tests.{left, right}
@@ -166,19 +166,11 @@ module _ {A : Type 0} where
   pub listed-at : (f : ℕ → A) (d : A) (n j : ℕ) → j < n → getD (listed f n) j d ≡ f j
   listed-at f d n j h = from-at f d 0 n j h ∙ ap f (zero-add j)
 
-  from-all : (f : ℕ → A) (d : A) (l : List A) (i k : ℕ) → length l ≡ k → ((j : ℕ) → j < k → getD l j d ≡ f (i + j)) → l ≡ listFrom f i k
-  unfolding listFrom
-  from-all f d [] i zero e h = refl
-  from-all f d [] i (suc k) e h = absurd (omega arith)
-  from-all f d (x ∷ l) i zero e h = absurd (omega arith)
-  from-all f d (x ∷ l) i (suc k) e h =
-      ap₂ (λ (a : A) (m : List A). a ∷ m)
-      (h 0 (zero-lt-suc k) ∙ ap f (add-zero i))
-      (from-all f d l (suc i) k (omega arith) (λ j q. h (suc j) (suc-le-suc q) ∙ ap f (add-suc i j ∙ sym (suc-add i j))))
-
   -- a list of n elements is known by each of them
   pub listed-all : (f : ℕ → A) (d : A) (l : List A) (n : ℕ) → length l ≡ n → ((j : ℕ) → j < n → getD l j d ≡ f j) → l ≡ listed f n
-  listed-all f d l n e h = from-all f d l 0 n e (λ j q. h j q ∙ ap f (sym (zero-add j)))
+  listed-all f d l n e h =
+      ext-getD d l (listed f n) (e ∙ sym (length-from f 0 n))
+      (λ j q. let k : j < n = omega (arith, e) in h j k ∙ sym (listed-at f d n j k))
 
   -- what a place holds after a store at k
   pub stored-at : (P : A → Type 0) (l : List A) (d : A) (j k : ℕ) (v : A) → k < length l → (j ≡ k → P v) → ((j ≡ k → ⊥) → P (getD l j d))

@@ -1,9 +1,8 @@
 -- The matrix pairs of the gross and the two-gross code, by rows, as in the original. Assumes nothing.
-use mathlib.Core.List.{List, [], _∷_, map, flatMap}
-use Prim.Native.Nat.{ℕ, _-_}
-use Prim.Native.Char.{code}
+use mathlib.Core.List.{List, [], _∷_, flatMap}
+use Prim.Native.Nat.{ℕ}
 use Prim.Native.String.{String}
-use Rattle.bicycle_common.specs.Bytes.{bytesOf}
+use Rattle.bicycle_common.specs.Bytes.{bytesOf, digitNumbers}
 use Rattle.measurement.specs.Matrices.{side, byRows}
 use Rattle.measurement.specs.declared.CodeMeasurement.{CodeMeasurement}
 use Rattle.measurement.specs.declared.MeasurementChoices.{MeasurementChoices}
@@ -13,9 +12,9 @@ use Rattle.measurement.specs.declared.MeasurementChoices.the-variants.{G
 abbrev pub pairOf : List (List ℕ) → List (List ℕ) → CodeMeasurement
 pairOf mx my = record { mx = byRows side mx; my = byRows side my }
 
--- the numbers that decimal digits stand for
+-- the numbers of a text of digits
 abbrev pub digitsOf : String → List ℕ
-digitsOf s = map (λ (b : ℕ). b - code "0") (bytesOf s)
+digitsOf s = digitNumbers (bytesOf s)
 
 -- a matrix, row by row
 abbrev rows : List String → List ℕ

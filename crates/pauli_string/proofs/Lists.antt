@@ -1,28 +1,16 @@
--- Lists in reverse, and lists that a loop fills from either end. Assumes nothing.
-use mathlib.Core.Path.{_≡_, refl, sym, ap, ap₂, _∙_}
+-- Lists in reverse, and lists that a loop fills from the end. Assumes nothing.
+use mathlib.Core.Path.{_≡_, refl, ap, ap₂, _∙_}
 use mathlib.Core.Bool.{Bool, true, false}
 use mathlib.Core.List.{List, [], _∷_, _++_, reverse, reverse-cons, reverse-append}
-use Prim.Native.Nat.{ℕ, suc, _+_, _-_, _≤_, _<_}
+use Prim.Native.Nat.{ℕ, suc, _-_, _≤_, _<_}
 use native.Mathlib.Nat.{not-suc-le-zero}
-use native.Mathlib.Numerals.{add-one}
 use native.Mathlib.Omega.{arith}
 use lib.Dec.{ltb}
 use borrow.Author.Tests.{ltb-true, ltb-false}
-use lib.ListN.{length, getD, take, drop, set, length-set, length-reverse, List·getD-append}
-use lib.Seq.{take-suc, take-suc-set, take-all, drop-cons, getD-set-same, drop-set-lt, getD-append-seam}
+use lib.ListN.{length, getD, drop, set, length-set, length-reverse, List·getD-append}
+use lib.Seq.{drop-cons, getD-set-same, drop-set-lt, getD-append-seam}
 
 module _ {A : Type 0} where
-  -- ---- filled from the front
-
-  pub filled-more : (d : A) (out L : List A) (i : ℕ) (b : A) → i < length out → i < length L → take i out ≡ take i L → b ≡ getD L i d
-      → take (i + 1) (set out i b) ≡ take (i + 1) L
-  filled-more d out L i b ho hL e eb =
-      ap (λ (k : ℕ). take k (set out i b)) (add-one i) ∙ take-suc-set out i b ho
-      ∙ ap₂ (λ (l : List A) (c : A). l ++ (c ∷ [])) e eb ∙ sym (take-suc L i d hL) ∙ ap (λ (k : ℕ). take k L) (sym (add-one i))
-
-  pub filled : (out L : List A) (n i : ℕ) → length out ≡ n → length L ≡ n → n ≤ i → take i out ≡ take i L → out ≡ L
-  filled out L n i ho hL h e = sym (take-all i out (omega arith)) ∙ e ∙ take-all i L (omega arith)
-
   -- ---- filled from the end: one element more in front of those that are there
 
   pub drop-set : (d : A) (l : List A) (i : ℕ) (a : A) → i < length l → drop i (set l i a) ≡ a ∷ drop (suc i) l

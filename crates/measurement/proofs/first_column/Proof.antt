@@ -1,17 +1,17 @@
 -- `measurement::first_column` meets its contract: the loop copies the first number of each row. Assumes nothing.
 use borrow.Author.Needs.{needs}
 use mathlib.Core.Path.{_≡_, refl, _∙_}
-use Prim.Native.Nat.{ℕ, _-_, _<_, _≤_}
+use Prim.Native.Nat.{ℕ, _-_}
 use native.Mathlib.Omega.{arith}
-use lib.ListN.{length, length-set, getD}
-use Rattle.bicycle_common.proofs.Ranges.{stored-more, listed-all}
+use Rattle.bicycle_common.proofs.Ranges.{listed-all}
+use Rattle.bicycle_common.proofs.Filled.{Filled, filled-none, filled-more, filled-each}
 use Rattle.measurement.specs.Matrices.{ofRows}
 use Rattle.measurement.specs.Measures.{action}
 use Rattle.measurement.proofs.first_column.Statement.{statement}
 use Rattle.measurement.proofs.first_column.Tie as tie
 
 abbrev Inv-loop : tie.InvT-loop
-Inv-loop m out₀ i₀ out i = (i ≤ 6) × (length out ≡ 6) × ((t : ℕ) → t < i → getD out t 0 ≡ ofRows m t 0)
+Inv-loop m out₀ i₀ out i = Filled (λ (t x : ℕ). x ≡ ofRows m t 0) 0 6 i out
 
 abbrev μ-loop : tie.MeasureT-loop
 μ-loop m out₀ i₀ out i = 6 - i
@@ -20,7 +20,7 @@ action-requires : tie.Need-action-requires Inv-loop μ-loop
 action-requires c κs = search needs
 
 loop-holds : tie.Need-loop-holds Inv-loop μ-loop
-loop-holds c = (search needs, refl, λ t h. omega arith)
+loop-holds c = filled-none refl
 
 mul-out : tie.Need-mul-out Inv-loop μ-loop
 mul-out c = search needs
@@ -41,20 +41,14 @@ loop-less : tie.Need-loop-less Inv-loop μ-loop
 loop-less c = search needs
 
 loop-again : tie.Need-loop-again Inv-loop μ-loop
-loop-again c =
-    let w = c .before .before .loop in
-    let m = c .before .before .before .action .result in (
-      search needs,
-      simp length-set (omega arith),
-      stored-more (λ (t x : ℕ). x ≡ ofRows m t 0) (w .out) 0 (w .i) _ (omega arith) (w .inv .2) refl,
-    )
+loop-again c = filled-more (c .before .before .loop .inv) (omega arith) refl
 
 returns : tie.Need-returns Inv-loop μ-loop
 returns c =
     let w = c .before .loop in
     let g = c .before .before .before .args in
-    listed-all (λ (t : ℕ). action 6 (ofRows (g .mx)) (ofRows (g .my)) (g .a) t 0) 0 (w .out) 6 (w .inv .1)
-    (λ t h. w .inv .2 t (omega arith) ∙ c .before .before .action .ensures t 0 h (omega arith))
+    listed-all (λ (t : ℕ). action 6 (ofRows (g .mx)) (ofRows (g .my)) (g .a) t 0) 0 (w .out) 6 (w .inv .long)
+    (λ t h. filled-each (w .inv) (omega arith) t h ∙ c .before .before .action .ensures t 0 h (omega arith))
 
 pub first-column-spec : {M : Type 1} → statement M
 first-column-spec =

@@ -1,17 +1,17 @@
 -- `measurement::first_row` meets its contract: the loop copies the numbers of row 0. Assumes nothing.
 use borrow.Author.Needs.{needs}
 use mathlib.Core.Path.{_≡_, refl, _∙_}
-use Prim.Native.Nat.{ℕ, _-_, _<_, _≤_}
+use Prim.Native.Nat.{ℕ, _-_}
 use native.Mathlib.Omega.{arith}
-use lib.ListN.{length, length-set, getD}
-use Rattle.bicycle_common.proofs.Ranges.{stored-more, listed-all}
+use Rattle.bicycle_common.proofs.Ranges.{listed-all}
+use Rattle.bicycle_common.proofs.Filled.{Filled, filled-none, filled-more, filled-each}
 use Rattle.measurement.specs.Matrices.{ofRows}
 use Rattle.measurement.specs.Measures.{action}
 use Rattle.measurement.proofs.first_row.Statement.{statement}
 use Rattle.measurement.proofs.first_row.Tie as tie
 
 abbrev Inv-loop : tie.InvT-loop
-Inv-loop m out₀ j₀ out j = (j ≤ 6) × (length out ≡ 6) × ((t : ℕ) → t < j → getD out t 0 ≡ ofRows m 0 t)
+Inv-loop m out₀ j₀ out j = Filled (λ (t x : ℕ). x ≡ ofRows m 0 t) 0 6 j out
 
 abbrev μ-loop : tie.MeasureT-loop
 μ-loop m out₀ j₀ out j = 6 - j
@@ -20,7 +20,7 @@ action-requires : tie.Need-action-requires Inv-loop μ-loop
 action-requires c κs = search needs
 
 loop-holds : tie.Need-loop-holds Inv-loop μ-loop
-loop-holds c = (search needs, refl, λ t h. omega arith)
+loop-holds c = filled-none refl
 
 index-1-out : tie.Need-index-1-out Inv-loop μ-loop
 index-1-out c = search needs
@@ -38,20 +38,14 @@ loop-less : tie.Need-loop-less Inv-loop μ-loop
 loop-less c = search needs
 
 loop-again : tie.Need-loop-again Inv-loop μ-loop
-loop-again c =
-    let w = c .before .before .loop in
-    let m = c .before .before .before .action .result in (
-      search needs,
-      simp length-set (omega arith),
-      stored-more (λ (t x : ℕ). x ≡ ofRows m 0 t) (w .out) 0 (w .j) _ (omega arith) (w .inv .2) refl,
-    )
+loop-again c = filled-more (c .before .before .loop .inv) (omega arith) refl
 
 returns : tie.Need-returns Inv-loop μ-loop
 returns c =
     let w = c .before .loop in
     let g = c .before .before .before .args in
-    listed-all (λ (t : ℕ). action 6 (ofRows (g .mx)) (ofRows (g .my)) (g .a) 0 t) 0 (w .out) 6 (w .inv .1)
-    (λ t h. w .inv .2 t (omega arith) ∙ c .before .before .action .ensures 0 t (omega arith) h)
+    listed-all (λ (t : ℕ). action 6 (ofRows (g .mx)) (ofRows (g .my)) (g .a) 0 t) 0 (w .out) 6 (w .inv .long)
+    (λ t h. filled-each (w .inv) (omega arith) t h ∙ c .before .before .action .ensures 0 t (omega arith) h)
 
 pub first-row-spec : {M : Type 1} → statement M
 first-row-spec =

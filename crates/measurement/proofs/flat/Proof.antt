@@ -1,22 +1,21 @@
 -- `measurement::flat` meets its contract: the loop copies the numbers in the order of the rows. Assumes nothing.
 use borrow.Author.Needs.{needs}
 use mathlib.Core.Path.{_≡_, refl}
-use Prim.Native.Nat.{ℕ, _-_, _/_, _%_, _<_, _≤_}
+use Prim.Native.Nat.{ℕ, _-_, _/_, _%_}
 use native.Mathlib.Omega.{arith}
-use lib.ListN.{length, length-set, getD}
-use Rattle.bicycle_common.proofs.Ranges.{stored-more, listed-all}
+use Rattle.bicycle_common.proofs.Filled.{Filled, filled-none, filled-more, filled-all}
 use Rattle.measurement.specs.Matrices.{ofRows}
 use Rattle.measurement.proofs.flat.Statement.{statement}
 use Rattle.measurement.proofs.flat.Tie as tie
 
 abbrev Inv-loop : tie.InvT-loop
-Inv-loop m out₀ q₀ out q = (q ≤ 36) × (length out ≡ 36) × ((t : ℕ) → t < q → getD out t 0 ≡ ofRows m (t / 6) (t % 6))
+Inv-loop m out₀ q₀ out q = Filled (λ (t x : ℕ). x ≡ ofRows m (t / 6) (t % 6)) 0 36 q out
 
 abbrev μ-loop : tie.MeasureT-loop
 μ-loop m out₀ q₀ out q = 36 - q
 
 loop-holds : tie.Need-loop-holds Inv-loop μ-loop
-loop-holds c = (search needs, refl, λ t h. omega arith)
+loop-holds c = filled-none refl
 
 mul-out : tie.Need-mul-out Inv-loop μ-loop
 mul-out c = search needs
@@ -37,19 +36,10 @@ loop-less : tie.Need-loop-less Inv-loop μ-loop
 loop-less c = search needs
 
 loop-again : tie.Need-loop-again Inv-loop μ-loop
-loop-again c =
-    let w = c .before .before .loop in
-    let m = c .before .before .before .args .t1 in (
-      search needs,
-      simp length-set (omega arith),
-      stored-more (λ (t x : ℕ). x ≡ ofRows m (t / 6) (t % 6)) (w .out) 0 (w .q) _ (omega arith) (w .inv .2) refl,
-    )
+loop-again c = filled-more (c .before .before .loop .inv) (omega arith) refl
 
 returns : tie.Need-returns Inv-loop μ-loop
-returns c =
-    let w = c .before .loop in
-    let m = c .before .before .args .t1 in
-    listed-all (λ (q : ℕ). ofRows m (q / 6) (q % 6)) 0 (w .out) 36 (w .inv .1) (λ t h. w .inv .2 t (omega arith))
+returns c = filled-all (c .before .loop .inv) (omega arith)
 
 pub flat-spec : {M : Type 1} → statement M
 flat-spec =

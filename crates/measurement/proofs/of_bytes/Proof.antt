@@ -2,22 +2,22 @@
 use borrow.Author.Needs.{needs}
 use mathlib.Core.Path.{_≡_, refl}
 use mathlib.Core.List.{List, []}
-use Prim.Native.Nat.{ℕ, _-_, _<_, _≤_}
+use Prim.Native.Nat.{ℕ, _-_, _<_}
 use native.Mathlib.Omega.{arith}
-use lib.ListN.{length, length-set, getD}
-use Rattle.bicycle_common.proofs.Ranges.{stored-more}
-use Rattle.measurement.specs.Matrices.{ofRows, ofBytes}
+use lib.ListN.{getD}
+use Rattle.bicycle_common.proofs.Filled.{Filled, filled-none, filled-more, filled-each}
+use Rattle.measurement.specs.Matrices.{ofBytes}
 use Rattle.measurement.proofs.of_bytes.Statement.{statement}
 use Rattle.measurement.proofs.of_bytes.Tie as tie
 
 abbrev Inv-loop : tie.InvT-loop
-Inv-loop b out₀ i₀ out i = (i ≤ 6) × (length out ≡ 6) × ((t : ℕ) → t < i → (k : ℕ) → k < 6 → ofRows out t k ≡ ofBytes 6 b t k)
+Inv-loop b out₀ i₀ out i = Filled (λ (t : ℕ) (x : List ℕ). (k : ℕ) → k < 6 → getD x k 0 ≡ ofBytes 6 b t k) [] 6 i out
 
 abbrev μ-loop : tie.MeasureT-loop
 μ-loop b out₀ i₀ out i = 6 - i
 
 loop-holds : tie.Need-loop-holds Inv-loop μ-loop
-loop-holds c = (search needs, refl, λ t h. absurd (omega arith))
+loop-holds c = filled-none refl
 
 row-of-requires : tie.Need-row-of-requires Inv-loop μ-loop
 row-of-requires c κs = search needs
@@ -35,17 +35,10 @@ loop-less : tie.Need-loop-less Inv-loop μ-loop
 loop-less c = search needs
 
 loop-again : tie.Need-loop-again Inv-loop μ-loop
-loop-again c =
-    let w = c .before .before .loop in
-    let b = c .before .before .before .before .args .b .now in (
-      search needs,
-      simp length-set (omega arith),
-      stored-more (λ (t : ℕ) (x : List ℕ). (k : ℕ) → k < 6 → getD x k 0 ≡ ofBytes 6 b t k) (w .out) [] (w .i) _ (omega arith) (w .inv .2)
-          (c .row-of .ensures),
-    )
+loop-again c = filled-more (c .before .before .loop .inv) (omega arith) (c .row-of .ensures)
 
 returns : tie.Need-returns Inv-loop μ-loop
-returns c = λ i k hi hk. c .before .loop .inv .2 i (omega arith) k hk
+returns c = λ i k hi hk. filled-each (c .before .loop .inv) (omega arith) i hi k hk
 
 pub of-bytes-spec : {M : Type 1} → statement M
 of-bytes-spec =

@@ -1,6 +1,6 @@
 -- `measurement::packed_unchecked` meets its contract: the sum is written out, and six digits of at most 1 make at most 63. Assumes nothing.
 use borrow.Author.Needs.{needs}
-use Prim.Native.Nat.{_+_, _-_, _*_, _≤_}
+use Prim.Native.Nat.{_+_, _*_, _≤_}
 use native.Mathlib.Omega.{arith}
 use lib.ListN.{getD}
 use Rattle.bicycle_common.specs.Ranges.{sum}

@@ -1,7 +1,7 @@
 -- `measurement::place_unchecked` meets its contract: the code is the definition; both products are at most 63 * 65. Assumes nothing.
 use borrow.Author.Needs.{needs}
 use mathlib.Core.Path.{refl}
-use Prim.Native.Nat.{_+_, _-_, _*_, _≤_}
+use Prim.Native.Nat.{_+_, _*_, _≤_}
 use native.Mathlib.Omega.{arith}
 use native.Mathlib.Nat.{mul-le-mul}
 use Rattle.measurement.specs.Measures.{placed}

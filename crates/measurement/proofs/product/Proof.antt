@@ -2,22 +2,22 @@
 use borrow.Author.Needs.{needs}
 use mathlib.Core.Path.{_≡_, refl}
 use mathlib.Core.List.{List, []}
-use Prim.Native.Nat.{ℕ, _-_, _<_, _≤_}
+use Prim.Native.Nat.{ℕ, _-_, _<_}
 use native.Mathlib.Omega.{arith}
-use lib.ListN.{length, length-set, getD}
-use Rattle.bicycle_common.proofs.Ranges.{stored-more}
+use lib.ListN.{getD}
+use Rattle.bicycle_common.proofs.Filled.{Filled, filled-none, filled-more, filled-each}
 use Rattle.measurement.specs.Matrices.{ofRows, mul}
 use Rattle.measurement.proofs.product.Statement.{statement}
 use Rattle.measurement.proofs.product.Tie as tie
 
 abbrev Inv-loop : tie.InvT-loop
-Inv-loop a b out₀ i₀ out i = (i ≤ 6) × (length out ≡ 6) × ((t : ℕ) → t < i → (k : ℕ) → k < 6 → ofRows out t k ≡ mul 6 (ofRows a) (ofRows b) t k)
+Inv-loop a b out₀ i₀ out i = Filled (λ (t : ℕ) (x : List ℕ). (k : ℕ) → k < 6 → getD x k 0 ≡ mul 6 (ofRows a) (ofRows b) t k) [] 6 i out
 
 abbrev μ-loop : tie.MeasureT-loop
 μ-loop a b out₀ i₀ out i = 6 - i
 
 loop-holds : tie.Need-loop-holds Inv-loop μ-loop
-loop-holds c = (search needs, refl, λ t h. omega arith)
+loop-holds c = filled-none refl
 
 product-row-requires : tie.Need-product-row-requires Inv-loop μ-loop
 product-row-requires c κs = search needs
@@ -35,17 +35,10 @@ loop-less : tie.Need-loop-less Inv-loop μ-loop
 loop-less c = search needs
 
 loop-again : tie.Need-loop-again Inv-loop μ-loop
-loop-again c =
-    let w = c .before .before .loop in
-    let g = c .before .before .before .args in (
-      search needs,
-      simp length-set (omega arith),
-      stored-more (λ (t : ℕ) (x : List ℕ). (k : ℕ) → k < 6 → getD x k 0 ≡ mul 6 (ofRows (g .a)) (ofRows (g .b)) t k) (w .out) [] (w .i) _ (omega arith)
-          (w .inv .2) (c .product-row .ensures),
-    )
+loop-again c = filled-more (c .before .before .loop .inv) (omega arith) (c .product-row .ensures)
 
 returns : tie.Need-returns Inv-loop μ-loop
-returns c = λ i k hi hk. c .before .loop .inv .2 i (omega arith) k hk
+returns c = λ i k hi hk. filled-each (c .before .loop .inv) (omega arith) i hi k hk
 
 pub product-spec : {M : Type 1} → statement M
 product-spec =

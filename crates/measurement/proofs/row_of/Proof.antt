@@ -1,22 +1,21 @@
 -- `measurement::row_of` meets its contract: the loop copies six bytes. Assumes nothing.
 use borrow.Author.Needs.{needs}
 use mathlib.Core.Path.{_≡_, refl}
-use Prim.Native.Nat.{ℕ, _-_, _<_, _≤_}
+use Prim.Native.Nat.{ℕ, _-_}
 use native.Mathlib.Omega.{arith}
-use lib.ListN.{length, length-set, getD}
-use Rattle.bicycle_common.proofs.Ranges.{stored-more}
+use Rattle.bicycle_common.proofs.Filled.{Filled, filled-none, filled-more, filled-each}
 use Rattle.measurement.specs.Matrices.{ofBytes}
 use Rattle.measurement.proofs.row_of.Statement.{statement}
 use Rattle.measurement.proofs.row_of.Tie as tie
 
 abbrev Inv-loop : tie.InvT-loop
-Inv-loop b i out₀ k₀ out k = (k ≤ 6) × (length out ≡ 6) × ((t : ℕ) → t < k → getD out t 0 ≡ ofBytes 6 b i t)
+Inv-loop b i out₀ k₀ out k = Filled (λ (t x : ℕ). x ≡ ofBytes 6 b i t) 0 6 k out
 
 abbrev μ-loop : tie.MeasureT-loop
 μ-loop b i out₀ k₀ out k = 6 - k
 
 loop-holds : tie.Need-loop-holds Inv-loop μ-loop
-loop-holds c = (search needs, refl, λ t h. omega arith)
+loop-holds c = filled-none refl
 
 mul-out : tie.Need-mul-out Inv-loop μ-loop
 mul-out c = search needs
@@ -37,16 +36,10 @@ loop-less : tie.Need-loop-less Inv-loop μ-loop
 loop-less c = search needs
 
 loop-again : tie.Need-loop-again Inv-loop μ-loop
-loop-again c =
-    let w = c .before .before .loop in
-    let g = c .before .before .before .args in (
-      search needs,
-      simp length-set (omega arith),
-      stored-more (λ (t x : ℕ). x ≡ ofBytes 6 (g .b .now) (g .i) t) (w .out) 0 (w .k) _ (omega arith) (w .inv .2) refl,
-    )
+loop-again c = filled-more (c .before .before .loop .inv) (omega arith) refl
 
 returns : tie.Need-returns Inv-loop μ-loop
-returns c = λ k h. c .before .loop .inv .2 k (omega arith)
+returns c = filled-each (c .before .loop .inv) (omega arith)
 
 pub row-of-spec : {M : Type 1} → statement M
 row-of-spec =

@@ -2,14 +2,14 @@
 -- Assumes nothing.
 use mathlib.Core.List.{List, map}
 use mathlib.Core.Path.{_≡_, refl, sym, ap, _∙_}
-use Prim.Native.Nat.{ℕ, _-_, _≤_, _<_}
+use Prim.Native.Nat.{ℕ, _-_, _<_}
 use native.Mathlib.Omega.{arith}
-use lib.ListN.{length, take, length-set, length-map, List·getD-map}
+use lib.ListN.{length-map, getD, List·getD-map}
 use Rattle.bicycle_common.specs.declared.Pauli.the-variants.{I}
 use Rattle.bicycle_common.specs.declared.Pauli.{Pauli}
+use Rattle.bicycle_common.proofs.Filled.{Filled, filled-none, filled-more, filled-list}
 use Rattle.pauli_string.specs.Text.{letters}
 use Rattle.pauli_string.specs.declared.Letter.{Letter}
-use Rattle.pauli_string.proofs.Lists.{filled, filled-more}
 use Rattle.pauli_string.proofs.Text.{length-letters, letters-at}
 use Rattle.pauli_string.proofs.PauliString.letters_unchecked.Statement.{statement}
 use Rattle.pauli_string.proofs.PauliString.letters_unchecked.Tie as tie
@@ -21,17 +21,14 @@ wrap l = record { 0 = l }
 abbrev held : ℕ → List Letter
 held p = map wrap (letters 12 p)
 
-length-held : (p : ℕ) → length (held p) ≡ 12
-length-held p = length-map (letters 12 p) wrap ∙ length-letters 12 p
-
 abbrev Inv-loop : tie.InvT-loop
-Inv-loop self out₀ i₀ out i = (i ≤ 12) × (length out ≡ 12) × (take i out ≡ take i (held (self .0)))
+Inv-loop self out₀ i₀ out i = Filled (λ (t : ℕ) (x : Letter). x ≡ getD (held (self .0)) t (wrap I)) (wrap I) 12 i out
 
 abbrev μ-loop : tie.MeasureT-loop
 μ-loop self out₀ i₀ out i = 12 - i
 
 loop-holds : tie.Need-loop-holds Inv-loop μ-loop
-loop-holds c = (omega arith, refl, refl)
+loop-holds c = filled-none refl
 
 get-pauli-unchecked-requires : tie.Need-get-pauli-unchecked-requires Inv-loop μ-loop
 get-pauli-unchecked-requires c κs = omega arith
@@ -49,19 +46,13 @@ loop-again : tie.Need-loop-again Inv-loop μ-loop
 loop-again c =
     let b = c .before .before in
     let p : ℕ = b .before .args .self .0 in
-    let o : length (b .loop .out) ≡ 12 = b .loop .inv .1 in
-    let l : length (held p) ≡ 12 = length-held p in
-    let n : b .loop .i < 12 = omega arith in (
-      omega arith,
-      length-set (b .loop .out) (b .loop .i) (wrap (c .get-pauli-unchecked .result)) ∙ o,
-      filled-more (wrap I) (b .loop .out) (held p) (b .loop .i) (wrap (c .get-pauli-unchecked .result)) (omega arith) (omega arith) (b .loop .inv .2)
-          (ap wrap (c .get-pauli-unchecked .ensures ∙ sym (letters-at 12 p (b .loop .i) n)) ∙ sym (List·getD-map wrap (letters 12 p) (b .loop .i) I)),
-    )
+    let n : b .loop .i < 12 = omega arith in
+    filled-more (b .loop .inv) n (ap wrap (c .get-pauli-unchecked .ensures ∙ sym (letters-at 12 p (b .loop .i) n)) ∙ sym (List·getD-map wrap (letters 12 p) (b .loop .i) I))
 
 returns : tie.Need-returns Inv-loop μ-loop
 returns c =
-    filled (c .before .loop .out) (held (c .before .before .args .self .0)) 12 (c .before .loop .i) (c .before .loop .inv .1)
-    (length-held (c .before .before .args .self .0)) (omega arith) (c .before .loop .inv .2)
+    let p : ℕ = c .before .before .args .self .0 in
+    filled-list (c .before .loop .inv) (omega arith) (length-map (letters 12 p) wrap ∙ length-letters 12 p)
 
 pub letters-unchecked-spec : {M : Type 1} → statement M
 letters-unchecked-spec =
