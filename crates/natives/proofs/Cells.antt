@@ -9,16 +9,15 @@ use native.Mathlib.Nat.{mul-add, mul-one}
 use native.Mathlib.Omega.{arith}
 use lib.Bits.{bitAnd, and-block, and-mask, and-zero-r, and-le-r}
 use Rattle.bicycle_common.specs.declared.TwoBases.{TwoBases}
-use Rattle.bicycle_common.specs.Automorphisms.{opposite}
 use Rattle.bicycle_common.specs.Letters.{xOf, zOf}
 use Rattle.bicycle_common.proofs.Ranges.{lt-or-ge}
 use Rattle.bicycle_common.proofs.Letters.{xOf-lt, zOf-lt}
 use Rattle.native_measurement.specs.Natives.{natives, basesAt}
-use Rattle.measurement.specs.Matrices.{ofRows}
+use Rattle.measurement.specs.Matrices.{side, ofRows}
 use Rattle.measurement.specs.Measures.{placed}
 use Rattle.natives.specs.Arrays.{at}
 use Rattle.natives.specs.Kept.{kept}
-use Rattle.natives.specs.Packed.{SmallCells, wordString, gridString}
+use Rattle.natives.specs.Packed.{SmallCells, wordString, gridColumn, gridRow, gridString}
 use Rattle.natives.specs.Cells.{spread, mask, masked, shown, Full, Marked, Spread, gridCell, Upto, Block, Alone}
 use Rattle.natives.proofs.Grids.{place-digits}
 use Rattle.natives.proofs.Chains.{one-there}
@@ -107,9 +106,15 @@ cell-at cs rs x y hx hy =
     rw (a, b, i, j)
 
 module _ (cs rs : List (List ℕ)) (hc : SmallCells cs) (hr : SmallCells rs) where
+  column-lt : (a : ℕ) → gridColumn cs a < 2 ^ side
+  column-lt a = hc _ _ (omega arith) (omega arith)
+
+  row-lt : (a : ℕ) → a < 36 → gridRow rs a < 2 ^ side
+  row-lt a h = hr _ _ (omega arith) (omega arith)
+
   pub grid-lt : (a : ℕ) → a < 36 → gridCell cs rs a < 4 ^ 12
   unfolding gridCell
-  grid-lt a h = spread-lt _ _ (hc _ _ (omega arith) (omega arith)) (hr _ _ (omega arith) (omega arith))
+  grid-lt a h = spread-lt _ _ (column-lt a) (row-lt a h)
 
   -- cells that are marked show what the grids have
   module _ (f : ℕ → ℕ) (e : (a : ℕ) → a < 36 → f a ≡ gridCell cs rs a) (l : List ℕ) (m : Marked f l) where
@@ -119,11 +124,9 @@ module _ (cs rs : List (List ℕ)) (hc : SmallCells cs) (hr : SmallCells rs) whe
     shown-at : (k a : ℕ) → a < 36 → bitAnd (at l a) (mask k) ≡ bitAnd (f a) (mask k)
     unfolding gridCell
     shown-at k a h =
-        let hc· = hc (opposite (a % 6)) (opposite (a / 6)) (omega arith) (omega arith) in
-        let hr· = hr (a / 6) (a % 6) (omega arith) (omega arith) in
         ap (λ (v : ℕ). bitAnd v (mask k)) (cell-of a h)
-        ∙ marked-masked _ _ (m .s) k hc· hr·
-        ∙ sym (spread-masked _ _ k hc· hr·)
+        ∙ marked-masked _ _ (m .s) k (column-lt a) (row-lt a h)
+        ∙ sym (spread-masked _ _ k (column-lt a) (row-lt a h))
         ∙ ap (λ (v : ℕ). bitAnd v (mask k)) (sym (e a h))
 
     pub cells-spread : Spread l
@@ -131,11 +134,11 @@ module _ (cs rs : List (List ℕ)) (hc : SmallCells cs) (hr : SmallCells rs) whe
     cells-spread = record {
       long = m .long;
       words = λ a h. (
-        ofRows cs (opposite (a % 6)) (opposite (a / 6)),
-        ofRows rs (a / 6) (a % 6),
+        gridColumn cs a,
+        gridRow rs a,
         m .s,
-        hc (opposite (a % 6)) (opposite (a / 6)) (omega arith) (omega arith),
-        hr (a / 6) (a % 6) (omega arith) (omega arith),
+        column-lt a,
+        row-lt a h,
         cell-of a h,
       );
       full = λ a h l. full-here (m .full (omega (arith, cell-of a h, l)));
@@ -151,7 +154,7 @@ module _ (cs rs : List (List ℕ)) (hc : SmallCells cs) (hr : SmallCells rs) whe
     unfolding shown gridCell gridString
     shown-grid n h =
         ap (λ (v : ℕ). bitAnd v (mask (n % 15))) (cell-of (n / 15) (omega arith))
-        ∙ marked-masked _ _ (m .s) (n % 15) (hc _ _ (omega arith) (omega arith)) (hr _ _ (omega arith) (omega arith))
+        ∙ marked-masked _ _ (m .s) (n % 15) (column-lt (n / 15)) (row-lt (n / 15) (omega arith))
 
 -- ---- one block after another
 

@@ -5,10 +5,9 @@ use mathlib.Core.Path.{_≡_}
 use Prim.Native.Nat.{ℕ, _+_, _-_, _*_, _/_, _%_, _^_, _<_, _≤_}
 use lib.Bits.{bitAnd}
 use lib.ListN.{length}
-use Rattle.bicycle_common.specs.Automorphisms.{opposite}
-use Rattle.measurement.specs.Matrices.{side, ofRows}
+use Rattle.measurement.specs.Matrices.{side}
 use Rattle.natives.specs.Arrays.{at}
-use Rattle.natives.specs.Packed.{wordString}
+use Rattle.natives.specs.Packed.{wordString, gridColumn, gridRow}
 use Rattle.natives.specs.Chains.{occurrences}
 
 -- the cell with column c and row w
@@ -46,7 +45,7 @@ pub record Spread (l : List ℕ) : Type 0 where
 
 -- the cell of automorphism a by a grid of columns and a grid of rows
 unfoldable pub gridCell : List (List ℕ) → List (List ℕ) → ℕ → ℕ
-gridCell cs rs a = spread (ofRows cs (opposite (a % 6)) (opposite (a / 6))) (ofRows rs (a / 6) (a % 6))
+gridCell cs rs a = spread (gridColumn cs a) (gridRow rs a)
 
 -- ---- filled block by block
 

@@ -77,7 +77,13 @@ SmallCells g = (i j : ℕ) → i < side → j < side → ofRows g i j < 2 ^ side
 abbrev pub wordString : ℕ → ℕ → ℕ → ℕ
 wordString c w k = placedBy side c w (basesAt k)
 
--- the string of native n, by a grid of columns and a grid of rows
+-- the column and the row of automorphism a, by a grid of columns and a grid of rows; the column is that of its inverse
+abbrev pub gridColumn : List (List ℕ) → ℕ → ℕ
+gridColumn cs a = ofRows cs (opposite (a % 6)) (opposite (a / 6))
+
+abbrev pub gridRow : List (List ℕ) → ℕ → ℕ
+gridRow rs a = ofRows rs (a / 6) (a % 6)
+
+-- the string of native n, by these
 unfoldable pub gridString : List (List ℕ) → List (List ℕ) → ℕ → ℕ
-gridString cs rs n =
-    wordString (ofRows cs (opposite (n / 15 % 6)) (opposite (n / 15 / 6))) (ofRows rs (n / 15 / 6) (n / 15 % 6)) (n % 15)
+gridString cs rs n = wordString (gridColumn cs (n / 15)) (gridRow rs (n / 15)) (n % 15)

@@ -1,16 +1,15 @@
 -- `natives::marked` meets its contract: the loop puts the mark on one cell a turn. Assumes nothing.
 use borrow.Author.Needs.{needs}
 use mathlib.Core.Path.{_≡_, refl}
-use Prim.Native.Nat.{ℕ, _+_, _-_, _*_, _<_, _≤_}
+use Prim.Native.Nat.{ℕ, _+_, _-_, _*_}
 use native.Mathlib.Omega.{arith}
-use lib.ListN.{length, length-set}
-use Rattle.bicycle_common.proofs.Ranges.{stored-more}
+use Rattle.bicycle_common.proofs.Filled.{Filled, filled-none, filled-more, filled-each}
 use Rattle.natives.specs.Arrays.{at}
 use Rattle.natives.proofs.marked.Statement.{statement}
 use Rattle.natives.proofs.marked.Tie as tie
 
 abbrev Inv-loop : tie.InvT-loop
-Inv-loop cells s out₀ a₀ out a = (a ≤ 36) × (length out ≡ 36) × ((t : ℕ) → t < a → at out t ≡ at cells t + 16777216 * s)
+Inv-loop cells s out₀ a₀ out a = Filled (λ (t x : ℕ). x ≡ at cells t + 16777216 * s) 0 36 a out
 
 abbrev μ-loop : tie.MeasureT-loop
 μ-loop cells s out₀ a₀ out a = 36 - a
@@ -19,7 +18,7 @@ lacks-requires : tie.Need-lacks-requires Inv-loop μ-loop
 lacks-requires c κs = search needs
 
 loop-holds : tie.Need-loop-holds Inv-loop μ-loop
-loop-holds c = (search needs, refl, λ t h. omega arith)
+loop-holds c = filled-none refl
 
 mul-out : tie.Need-mul-out Inv-loop μ-loop
 mul-out c = search needs
@@ -48,18 +47,13 @@ loop-less : tie.Need-loop-less Inv-loop μ-loop
 loop-less c = search needs
 
 loop-again : tie.Need-loop-again Inv-loop μ-loop
-loop-again c =
-    let w = c .before .loop in
-    let s = c .before .before .lacks .result in (
-      search needs,
-      simp length-set (omega arith),
-      stored-more (λ (t x : ℕ). x ≡ at (c .before .before .before .before .args .t1) t + 16777216 * s) (w .out) 0 (w .a) _ (omega arith) (w .inv .2) refl,
-    )
+loop-again c = filled-more (c .before .loop .inv) (omega arith) refl
 
 returns : tie.Need-returns Inv-loop μ-loop
 returns c =
-    let w = c .before .loop in
-    record { long = w .inv .1; s = c .before .before .lacks .result; cells = λ a h. w .inv .2 a (omega arith); full = c .before .before .lacks .ensures .1 }
+    let w = c .before .loop .inv in
+    let s = c .before .before .lacks in
+    record { long = w .long; s = s .result; cells = filled-each w (omega arith); full = s .ensures .1 }
 
 pub marked-spec : {M : Type 1} → statement M
 marked-spec =

@@ -2,10 +2,10 @@
 use borrow.Author.Needs.{needs}
 use mathlib.Core.List.{List, []}
 use mathlib.Core.Path.{_≡_, refl, _∙_}
-use Prim.Native.Nat.{ℕ, _-_, _<_, _≤_}
+use Prim.Native.Nat.{ℕ, _-_, _<_}
 use native.Mathlib.Omega.{arith}
-use lib.ListN.{length, length-set, getD}
-use Rattle.bicycle_common.proofs.Ranges.{stored-more}
+use lib.ListN.{getD}
+use Rattle.bicycle_common.proofs.Filled.{Filled, filled-none, filled-more, filled-each}
 use Rattle.natives.specs.Arrays.{at}
 use Rattle.natives.specs.Packed.{walked}
 use Rattle.natives.proofs.Words.{low-small, high-small, through}
@@ -13,7 +13,7 @@ use Rattle.natives.proofs.runs.Statement.{statement}
 use Rattle.natives.proofs.runs.Tie as tie
 
 abbrev Inv-loop : tie.InvT-loop
-Inv-loop heads lo hi out₀ i₀ out i = (i ≤ 6) × (length out ≡ 6) × ((t : ℕ) → t < i → (j : ℕ) → j < 6 → getD (getD out t []) j 0 ≡ walked lo hi (at heads t) j)
+Inv-loop heads lo hi out₀ i₀ out i = Filled (λ (t : ℕ) (x : List ℕ). (j : ℕ) → j < 6 → getD x j 0 ≡ walked lo hi (at heads t) j) [] 6 i out
 
 abbrev μ-loop : tie.MeasureT-loop
 μ-loop heads lo hi out₀ i₀ out i = 6 - i
@@ -25,7 +25,7 @@ sums-requires-2 : tie.Need-sums-requires-2 Inv-loop μ-loop
 sums-requires-2 c κs = (c .before .pre .1, omega arith)
 
 loop-holds : tie.Need-loop-holds Inv-loop μ-loop
-loop-holds c = (search needs, refl, λ t h. absurd (omega arith))
+loop-holds c = filled-none refl
 
 mul-run : tie.Need-mul-run Inv-loop μ-loop
 mul-run c = search needs
@@ -57,23 +57,14 @@ loop-less : tie.Need-loop-less Inv-loop μ-loop
 loop-less c = search needs
 
 loop-again : tie.Need-loop-again Inv-loop μ-loop
-loop-again c =
-    let w = c .before .before .before .before .loop in
-    let lo = c .before .before .before .before .before .before .sums .result in
-    let hi = c .before .before .before .before .before .sums2 .result in
-    let heads = c .before .before .before .before .before .before .before .args .t1 in (
-      search needs,
-      simp length-set (omega arith),
-      stored-more (λ (t : ℕ) (x : List ℕ). (j : ℕ) → j < 6 → getD x j 0 ≡ walked lo hi (at heads t) j) (w .out) [] (w .i) _ (omega arith)
-          (w .inv .2) (c .run .ensures),
-    )
+loop-again c = filled-more (c .before .before .before .before .loop .inv) (omega arith) (c .run .ensures)
 
 returns : tie.Need-returns Inv-loop μ-loop
 returns c =
     let s = c .before .before .before .before in
     let lo = c .before .before .before .sums in
     let hi = c .before .before .sums2 in
-    λ i j hi· hj. c .before .loop .inv .2 i (omega arith) j hj ∙ through (s .args .r) (s .pre .1) (lo .result) (hi .result) (lo .ensures) (hi .ensures) (at (s .args .t1) i) (s .pre .0 i hi·) j
+    λ i j hi· hj. filled-each (c .before .loop .inv) (omega arith) i hi· j hj ∙ through (s .args .r) (s .pre .1) (lo .result) (hi .result) (lo .ensures) (hi .ensures) (at (s .args .t1) i) (s .pre .0 i hi·) j
 
 pub runs-spec : {M : Type 1} → statement M
 runs-spec =

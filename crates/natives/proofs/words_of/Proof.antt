@@ -1,22 +1,21 @@
 -- `natives::words_of` meets its contract: the loop reads one word a turn. Assumes nothing.
 use borrow.Author.Needs.{needs}
 use mathlib.Core.Path.{_≡_, refl}
-use Prim.Native.Nat.{ℕ, _-_, _<_, _≤_}
+use Prim.Native.Nat.{ℕ, _-_}
 use native.Mathlib.Omega.{arith}
-use lib.ListN.{length, length-set, getD}
-use Rattle.bicycle_common.proofs.Ranges.{stored-more}
+use Rattle.bicycle_common.proofs.Filled.{Filled, filled-none, filled-more, filled-each}
 use Rattle.natives.specs.Packed.{wordAt}
 use Rattle.natives.proofs.words_of.Statement.{statement}
 use Rattle.natives.proofs.words_of.Tie as tie
 
 abbrev Inv-loop : tie.InvT-loop
-Inv-loop m line step out₀ k₀ out k = (k ≤ 6) × (length out ≡ 6) × ((t : ℕ) → t < k → getD out t 0 ≡ wordAt line step m t)
+Inv-loop m line step out₀ k₀ out k = Filled (λ (t x : ℕ). x ≡ wordAt line step m t) 0 6 k out
 
 abbrev μ-loop : tie.MeasureT-loop
 μ-loop m line step out₀ k₀ out k = 6 - k
 
 loop-holds : tie.Need-loop-holds Inv-loop μ-loop
-loop-holds c = (search needs, refl, λ t h. omega arith)
+loop-holds c = filled-none refl
 
 word-at-requires : tie.Need-word-at-requires Inv-loop μ-loop
 word-at-requires c κs = let s = c .before .before .before in (s .pre .0, s .pre .1, search needs)
@@ -34,16 +33,10 @@ loop-less : tie.Need-loop-less Inv-loop μ-loop
 loop-less c = search needs
 
 loop-again : tie.Need-loop-again Inv-loop μ-loop
-loop-again c =
-    let w = c .before .before .loop in
-    let g = c .before .before .before .before .args in (
-      search needs,
-      simp length-set (omega arith),
-      stored-more (λ (t x : ℕ). x ≡ wordAt (g .line) (g .step) (g .m .now) t) (w .out) 0 (w .k) _ (omega arith) (w .inv .2) (c .word-at .ensures),
-    )
+loop-again c = filled-more (c .before .before .loop .inv) (omega arith) (c .word-at .ensures)
 
 returns : tie.Need-returns Inv-loop μ-loop
-returns c = λ k h. c .before .loop .inv .2 k (omega arith)
+returns c = filled-each (c .before .loop .inv) (omega arith)
 
 pub words-of-spec : {M : Type 1} → statement M
 words-of-spec =
