@@ -135,29 +135,6 @@ module _ (q : ℕ) (f e : ℕ → ℕ) (p : ℕ) where
           upto : (k : ℕ) → k ≤ depth (e p) → At k ≡ true
           upto k l = elim (ℕ-discrete k (depth (e p))) [ yes w ↦ ap At w ∙ z | no w ↦ h k (omega arith) ]
 
-  -- ---- a loop that goes down the walk
-
-  -- x, with the value v, is what such a loop has at place k
-  pub record Place (k x v : ℕ) : Type 0 where
-    pub here : x ≡ down q f e p k
-    pub value : v ≡ e x
-    pub inside : x < 4 ^ q
-
-  pub place-first : (v : ℕ) → p < 4 ^ q → v ≡ e p → Place 0 p v
-  place-first v h z = record { here = sym down-none; value = z; inside = h }
-
-  -- its test is that of the place
-  pub place-tested : (d k x v : ℕ) → Place k x v → d ≡ depth (e p) → stands q f v (d - k) x ≡ At k
-  place-tested d k x v a z =
-      ap₂ (λ (w j : ℕ). stands q f w (j - k) x) (a .value) z ∙ ap (λ (y : ℕ). stands q f (e y) (depth (e p) - k) y) (a .here)
-
-  module _ (small : (n : ℕ) → f n < 4 ^ q) (k x v y : ℕ) (a : Place k x v) (z : y ≡ leads q f x (named v)) where
-    pub next-inside : y < 4 ^ q
-    next-inside = subst (λ (n : ℕ). n < 4 ^ q) (sym z) (rotate-string q x (f (named v)) (a .inside) (small (named v)))
-
-    pub place-next : (w : ℕ) → w ≡ e y → Place (k + 1) y w
-    place-next w h = record { here = z ∙ down-step x v k (a .here) (a .value); value = h; inside = next-inside }
-
   -- ---- sound strings
 
   pub sound-none : e p ≡ 0 → sound q f e p ≡ true
