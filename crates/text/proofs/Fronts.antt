@@ -17,26 +17,26 @@ use Rattle.text.proofs.Puts.{put-length, put-whole}
 pub written-refused : (t : Read (List ℕ)) (before : List ℕ) (r : Refusal) → bad r ≡ t → Written t before (Refused r) before
 written-refused t before r e = record { answer = rw (← e); buffer = rw (← e) }
 
--- the text was put to an empty buffer, for its length
-module _ (t before : List ℕ) {z : List ℕ} {needed : ℕ} (p : Put [] 0 t needed z) where
-  no-bytes : (l : List ℕ) → length l ≡ 0 → l ≡ []
-  no-bytes [] e = refl
-  no-bytes (b ∷ l) e = absurd (omega arith)
+no-bytes : (l : List ℕ) → length l ≡ 0 → l ≡ []
+no-bytes [] e = refl
+no-bytes (b ∷ l) e = absurd (omega arith)
 
+-- the text was put to an empty buffer, for its length
+module _ {t z : List ℕ} {needed : ℕ} (p : Put [] 0 t needed z) where
   nothing : z ≡ []
   nothing = no-bytes z (put-length p)
 
   long : needed ≡ length t
   long = omega (arith, p .moves)
 
-  pub written-short : length (z ++ before) < needed → Written (good t) before (Refused (Room needed)) (z ++ before)
-  written-short h =
+  pub written-short : {before : List ℕ} → length (z ++ before) < needed → Written (good t) before (Refused (Room needed)) (z ++ before)
+  written-short {before} h =
       let k : length before < needed = rw nothing at h in
       let l : length before < length t = omega (arith, long) in
       record { answer = rw (lt-ltb (length before) (length t) l, ← long); buffer = rw (nothing, lt-ltb (length before) (length t) l) }
 
-  pub written-whole : {after : List ℕ} {n : ℕ} → needed ≤ length (z ++ before) → Put (z ++ before) 0 t n after → Written (good t) before (Is n) after
-  written-whole {after} {n} h q =
+  pub written-whole : {before after : List ℕ} {n : ℕ} → needed ≤ length (z ++ before) → Put (z ++ before) 0 t n after → Written (good t) before (Is n) after
+  written-whole {before} {after} {n} h q =
       let k : needed ≤ length before = rw nothing at h in
       let l : length t ≤ length before = omega (arith, long) in
       let m : n ≡ length t = omega (arith, q .moves) in

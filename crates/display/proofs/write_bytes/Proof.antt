@@ -17,7 +17,7 @@ same-length : tie.Need-same-length
 same-length c = search needs
 
 returns : tie.Need-returns
-returns c = written-short (c .before .before .before .before .before .before .before .args .bytes .now) (c .before .before .before .before .before .before .before .args .out .now) (c .before .before .before .put-bytes-unchecked .ensures) (c .if1 .taken)
+returns c = written-short (c .before .before .before .put-bytes-unchecked .ensures) (c .if1 .taken)
 
 put-bytes-unchecked-requires-2 : tie.Need-put-bytes-unchecked-requires-2
 put-bytes-unchecked-requires-2 c κs = search needs
@@ -26,7 +26,7 @@ same-length-2 : tie.Need-same-length-2
 same-length-2 c = search needs
 
 returns-2 : tie.Need-returns-2
-returns-2 c = written-whole (c .before .before .before .before .before .before .before .before .before .before .before .args .bytes .now) (c .before .before .before .before .before .before .before .before .before .before .before .args .out .now) (c .before .before .before .before .before .before .before .put-bytes-unchecked .ensures) (c .before .before .before .before .if1 .left) (c .before .before .put-bytes-unchecked2 .ensures)
+returns-2 c = written-whole (c .before .before .before .before .before .before .before .put-bytes-unchecked .ensures) (c .before .before .before .before .if1 .left) (c .before .before .put-bytes-unchecked2 .ensures)
 
 pub write-bytes-spec : {M : Type 1} → statement M
 write-bytes-spec =

@@ -1,6 +1,5 @@
 -- `display::write_native` meets its contract: an empty buffer tells the length, and then there is room for all of the text or nothing is written. Assumes nothing.
 use Rattle.text.proofs.Fronts.{written-short, written-whole}
-use Rattle.compile.specs.Expansions.{nativeExpansion, expansionText}
 use borrow.Author.Needs.{needs}
 use Rattle.display.proofs.write_native.Statement.{statement}
 use Rattle.display.proofs.write_native.Tie as tie
@@ -18,7 +17,7 @@ same-length : tie.Need-same-length
 same-length c = search needs
 
 returns : tie.Need-returns
-returns c = written-short (expansionText (nativeExpansion (c .before .before .before .before .before .before .args .expansion))) (c .before .before .before .before .before .before .args .out .now) (c .before .before .before .put-native-unchecked .ensures .0) (c .if1 .taken)
+returns c = written-short (c .before .before .before .put-native-unchecked .ensures .0) (c .if1 .taken)
 
 put-native-unchecked-requires-2 : tie.Need-put-native-unchecked-requires-2
 put-native-unchecked-requires-2 c κs = search needs
@@ -27,7 +26,7 @@ same-length-2 : tie.Need-same-length-2
 same-length-2 c = search needs
 
 returns-2 : tie.Need-returns-2
-returns-2 c = written-whole (expansionText (nativeExpansion (c .before .before .before .before .before .before .before .before .before .before .args .expansion))) (c .before .before .before .before .before .before .before .before .before .before .args .out .now) (c .before .before .before .before .before .before .before .put-native-unchecked .ensures .0) (c .before .before .before .before .if1 .left) (c .before .before .put-native-unchecked2 .ensures .0)
+returns-2 c = written-whole (c .before .before .before .before .before .before .before .put-native-unchecked .ensures .0) (c .before .before .before .before .if1 .left) (c .before .before .put-native-unchecked2 .ensures .0)
 
 pub write-native-spec : {M : Type 1} → statement M
 write-native-spec =

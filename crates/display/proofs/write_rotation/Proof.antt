@@ -1,6 +1,5 @@
 -- `display::write_rotation` meets its contract: an empty buffer tells the length, and then there is room for all of the text or nothing is written. Assumes nothing.
 use Rattle.text.proofs.Fronts.{written-short, written-whole}
-use Rattle.compile.specs.Expansions.{rotationExpansion, expansionText}
 use borrow.Author.Needs.{needs}
 use Rattle.display.proofs.write_rotation.Statement.{statement}
 use Rattle.display.proofs.write_rotation.Tie as tie
@@ -18,7 +17,7 @@ same-length : tie.Need-same-length
 same-length c = search needs
 
 returns : tie.Need-returns
-returns c = written-short (expansionText (rotationExpansion (c .before .before .before .before .before .before .args .expansion))) (c .before .before .before .before .before .before .args .out .now) (c .before .before .before .put-rotation-unchecked .ensures .0) (c .if1 .taken)
+returns c = written-short (c .before .before .before .put-rotation-unchecked .ensures .0) (c .if1 .taken)
 
 put-rotation-unchecked-requires-2 : tie.Need-put-rotation-unchecked-requires-2
 put-rotation-unchecked-requires-2 c κs = search needs
@@ -27,7 +26,7 @@ same-length-2 : tie.Need-same-length-2
 same-length-2 c = search needs
 
 returns-2 : tie.Need-returns-2
-returns-2 c = written-whole (expansionText (rotationExpansion (c .before .before .before .before .before .before .before .before .before .before .args .expansion))) (c .before .before .before .before .before .before .before .before .before .before .args .out .now) (c .before .before .before .before .before .before .before .put-rotation-unchecked .ensures .0) (c .before .before .before .before .if1 .left) (c .before .before .put-rotation-unchecked2 .ensures .0)
+returns-2 c = written-whole (c .before .before .before .before .before .before .before .put-rotation-unchecked .ensures .0) (c .before .before .before .before .if1 .left) (c .before .before .put-rotation-unchecked2 .ensures .0)
 
 pub write-rotation-spec : {M : Type 1} → statement M
 write-rotation-spec =

@@ -1,5 +1,4 @@
 -- `listing::write` meets its contract: an empty buffer tells the length, and then there is room for all of the text or nothing is written. Assumes nothing.
-use Rattle.listing.specs.Answers.{answerText}
 use Rattle.text.proofs.Fronts.{written-short, written-whole}
 use borrow.Author.Needs.{needs}
 use Rattle.listing.proofs.write.Statement.{statement}
@@ -18,7 +17,7 @@ same-length : tie.Need-same-length
 same-length c = search needs
 
 returns : tie.Need-returns
-returns c = written-short (answerText (c .before .before .before .before .before .before .args .plan)) (c .before .before .before .before .before .before .args .out .now) (c .before .before .before .put-answer .ensures) (c .if1 .taken)
+returns c = written-short (c .before .before .before .put-answer .ensures) (c .if1 .taken)
 
 put-answer-requires-2 : tie.Need-put-answer-requires-2
 put-answer-requires-2 c κs = search needs
@@ -27,7 +26,7 @@ same-length-2 : tie.Need-same-length-2
 same-length-2 c = search needs
 
 returns-2 : tie.Need-returns-2
-returns-2 c = written-whole (answerText (c .before .before .before .before .before .before .before .before .before .before .args .plan)) (c .before .before .before .before .before .before .before .before .before .before .args .out .now) (c .before .before .before .before .before .before .before .put-answer .ensures) (c .before .before .before .before .if1 .left) (c .before .before .put-answer2 .ensures)
+returns-2 c = written-whole (c .before .before .before .before .before .before .before .put-answer .ensures) (c .before .before .before .before .if1 .left) (c .before .before .put-answer2 .ensures)
 
 pub write-spec : {M : Type 1} → statement M
 write-spec =
