@@ -9,13 +9,14 @@ use lib.ListN.{length}
 use borrow.Author.Tests.{ltb-true}
 use Rattle.bicycle_common.specs.declared.Refusal.{Refusal}
 use Rattle.bicycle_common.specs.declared.Refusal.the-variants.{Matrix, NativeRange, PlanInput}
+use Rattle.bicycle_common.specs.Bytes.{digitNumbers}
 use Rattle.text.specs.Decimals.{allDigits, numberIn, isNumber}
 use Rattle.native_measurement.specs.declared.NativeNumber.{NativeNumber}
 use Rattle.native_measurement.specs.Natives.{natives}
 use Rattle.measurement.specs.Matrices.{side, isBytes}
 use Rattle.reader.specs.Lines.{isLine, valueIn}
 use Rattle.text.specs.Reads.{Read, good, bad, on}
-use Rattle.reader.specs.Plans.{digitNumbers, matrixLine, inRange, nativeLine}
+use Rattle.reader.specs.Plans.{matrixLine, inRange, nativeLine}
 
 -- ---- in general
 

@@ -1,12 +1,11 @@
 -- Plans, and how one is read, line by line: the first bad line decides, and a line that is missing is bad where it is due. Assumes nothing.
 use mathlib.Core.Bool.{cond, _&&_}
 use mathlib.Core.List.{List, [], _∷_, map}
-use Prim.Native.Nat.{ℕ, zero, suc, _-_, _*_}
-use Prim.Native.Char.{code}
+use Prim.Native.Nat.{ℕ, zero, suc, _*_}
 use lib.Dec.{eqb, ltb}
 use lib.ListN.{length, drop}
 use Rattle.bicycle_common.specs.declared.Refusal.the-variants.{Matrix, Identity, PivotIdentity, NativeRange, PlanInput}
-use Rattle.bicycle_common.specs.Bytes.{bytesOf}
+use Rattle.bicycle_common.specs.Bytes.{bytesOf, digitNumbers}
 use Rattle.text.specs.Reads.{Read, good, bad, on}
 use Rattle.text.specs.Decimals.{allDigits, numberIn, isNumber}
 use Rattle.pauli_string.specs.Strings.{qubits, hasPivot}
@@ -42,10 +41,6 @@ abbrev pub measured : Plan → ℕ
 measured p = measuredBy (stringsOf (p .pair)) (p .base) (p .rotations)
 
 -- ---- one line
-
--- the numbers of digits
-abbrev pub digitNumbers : List ℕ → List ℕ
-digitNumbers s = map (λ (b : ℕ). b - code "0") s
 
 -- `mx=` or `my=`, 36 decimal digits: a digit over 1 gives 3, anything else 12
 unfoldable pub matrixLine : List ℕ → List ℕ → Read (List ℕ)

@@ -13,6 +13,7 @@ ghost use mathlib.Core.Path.{_≡_};
 ghost use mathlib.Core.Bool.{true};
 ghost use Prim.Native.Nat.{_+_, _*_, _≤_, _<_};
 ghost use lib.ListN.{length, drop};
+ghost use Rattle.bicycle_common.specs.Bytes.{digitNumbers};
 ghost use Rattle.text.specs.Decimals.{allDigits};
 ghost use Rattle.native_measurement.specs.Natives.{natives};
 ghost use Rattle.measurement.specs.Matrices.{side, isBytes, ofBytes};
@@ -20,7 +21,7 @@ ghost use Rattle.natives.specs.Arrays;
 ghost use Rattle.natives.specs.Arrays.{at};
 ghost use Rattle.reader.specs.Lines.{lines, lineLength, begins, isLine};
 ghost use Rattle.text.specs.Reads.{bad};
-ghost use Rattle.reader.specs.Plans.{digitNumbers, matrixLine, nativeLine, supported, rotationLine, planFrom, nativeLines, readPlan};
+ghost use Rattle.reader.specs.Plans.{matrixLine, nativeLine, supported, rotationLine, planFrom, nativeLines, readPlan};
 ghost use Rattle.reader.specs.Answers.{lineAnswer, matrixAnswer, planAnswer};
 
 // The native of a line, or the refusal.

@@ -1,25 +1,25 @@
 -- `reader::digit_numbers` meets its contract: the loop fills the array from the front with the numbers of the digits. Assumes nothing.
 use mathlib.Core.Path.{_≡_, refl, sym, _∙_}
 use mathlib.Core.Bool.{true}
-use Prim.Native.Nat.{ℕ, _-_, _≤_}
+use Prim.Native.Nat.{ℕ, _-_}
 use native.Mathlib.Omega.{arith}
-use lib.ListN.{length, take, drop, getD, length-set, length-map, List·getD-map}
+use lib.ListN.{drop, getD, length-map, List·getD-map}
 use borrow.Author.Needs.{needs}
-use Rattle.pauli_string.proofs.Lists.{filled, filled-more}
+use Rattle.bicycle_common.specs.Bytes.{digitNumbers}
+use Rattle.bicycle_common.proofs.Filled.{Filled, filled-none, filled-more, filled-list}
 use Rattle.text.specs.Decimals.{allDigits}
 use Rattle.text.proofs.Decimals.{all-next}
-use Rattle.reader.specs.Plans.{digitNumbers}
 use Rattle.reader.proofs.digit_numbers.Statement.{statement}
 use Rattle.reader.proofs.digit_numbers.Tie as tie
 
 abbrev Inv-loop : tie.InvT-loop
-Inv-loop s out₀ i₀ out i = (i ≤ 36) × (length out ≡ 36) × (allDigits (drop i s) ≡ true) × (take i out ≡ take i (digitNumbers s))
+Inv-loop s out₀ i₀ out i = Filled (λ (t x : ℕ). x ≡ getD (digitNumbers s) t 0) 0 36 i out × (allDigits (drop i s) ≡ true)
 
 abbrev μ-loop : tie.MeasureT-loop
 μ-loop s out₀ i₀ out i = 36 - i
 
 loop-holds : tie.Need-loop-holds Inv-loop μ-loop
-loop-holds c = (omega arith, refl, c .pre .1, refl)
+loop-holds c = (filled-none refl, c .pre .1)
 
 shared-slice-read-out : tie.Need-shared-slice-read-out Inv-loop μ-loop
 shared-slice-read-out c = search needs
@@ -27,7 +27,7 @@ shared-slice-read-out c = search needs
 sub-out : tie.Need-sub-out Inv-loop μ-loop
 sub-out c =
     let b = c .before .before in
-    omega (arith, all-next (b .before .args .s .now) (b .loop .i) (omega arith) (b .loop .inv .2) .0 .low)
+    omega (arith, all-next (b .before .args .s .now) (b .loop .i) (omega arith) (b .loop .inv .1) .0 .low)
 
 array-write-out : tie.Need-array-write-out Inv-loop μ-loop
 array-write-out c = search needs
@@ -43,19 +43,10 @@ loop-again c =
     let b = c .before .before in
     let s = b .before .args .s .now in
     let w = b .loop in
-    let n : length (digitNumbers s) ≡ 36 = length-map s (λ (d : ℕ). d - 48) ∙ b .before .pre .0 in
-    let v : ℕ = getD s (w .i) 0 - 48 in (
-      omega arith,
-      length-set (w .out) (w .i) v ∙ w .inv .1,
-      all-next s (w .i) (omega arith) (w .inv .2) .1,
-      filled-more 0 (w .out) (digitNumbers s) (w .i) v (omega arith) (omega arith) (w .inv .3) (sym (List·getD-map (λ (d : ℕ). d - 48) s (w .i) 0)),
-    )
+    (filled-more (w .inv .0) (omega arith) (sym (List·getD-map (λ (d : ℕ). d - 48) s (w .i) 0)), all-next s (w .i) (omega arith) (w .inv .1) .1)
 
 returns : tie.Need-returns Inv-loop μ-loop
-returns c =
-    let w = c .before .loop in
-    let s = c .before .before .args .s .now in
-    filled (w .out) (digitNumbers s) 36 (w .i) (w .inv .1) (length-map s (λ (d : ℕ). d - 48) ∙ c .before .before .pre .0) (omega arith) (w .inv .3)
+returns c = filled-list (c .before .loop .inv .0) (omega arith) (length-map (c .before .before .args .s .now) (λ (d : ℕ). d - 48) ∙ c .before .before .pre .0)
 
 pub digit-numbers-spec : {M : Type 1} → statement M
 digit-numbers-spec =

@@ -2,9 +2,16 @@
 use mathlib.Core.Path.{sym, ap, _∙_}
 use borrow.Author.Needs.{needs}
 use Rattle.reader.specs.Answers.{planAnswer}
-use Rattle.reader.proofs.Heads.{first-bad, first-good, second-bad, second-good, both-read}
+use Rattle.reader.proofs.Heads.{Head, first-bad, first-good, second-bad, second-good, both-read}
 use Rattle.reader.proofs.read.Statement.{statement}
 use Rattle.reader.proofs.read.Tie as tie
+
+-- both lines are read
+head : (c : tie.After-matrix-line2) → Head (c .before .before .before .before .before .before .before .before .before .args .input .now) (c .before .before .before .before .before .before .before .line-end .result) (c .before .before .before .before .before .before .line-end2 .result) (c .before .before .before .matrix-line .result) (c .matrix-line2 .result)
+head c =
+    let x = c .before .before .before in
+    let g = x .before .before .before in
+    record { first-end = g .before .line-end .ensures .0; second-end = g .line-end2 .ensures .0; first = x .matrix-line .ensures; second = c .matrix-line2 .ensures }
 
 line-end-requires : tie.Need-line-end-requires
 line-end-requires c κs = search needs
@@ -49,14 +56,7 @@ no-plan-requires : tie.Need-no-plan-requires
 no-plan-requires c κs = search needs
 
 returns : tie.Need-returns
-returns c =
-    let y = c .before .before .before .before in
-    let x = y .before .before .before in
-    let g = x .before .before .before in
-    let s = g .before .before .before .args .input .now in
-    let p = g .before .line-end .ensures .0 in
-    let q = g .line-end2 .ensures .0 in
-    c .no-plan .ensures ∙ ap planAnswer (sym (first-bad s p q (x .matrix-line .ensures) _ (c .before .before .of-mx .given .1)))
+returns c = c .no-plan .ensures ∙ ap planAnswer (sym (first-bad (head (c .before .before .before .before)) _ (c .before .before .of-mx .given .1)))
 
 enum-told : tie.Need-enum-told
 enum-told c = search needs
@@ -69,14 +69,8 @@ no-plan-requires-2 c κs = search needs
 
 returns-2 : tie.Need-returns-2
 returns-2 c =
-    let y = c .before .before .before .before .before .before in
-    let x = y .before .before .before in
-    let g = x .before .before .before in
-    let s = g .before .before .before .args .input .now in
-    let p = g .before .line-end .ensures .0 in
-    let q = g .line-end2 .ensures .0 in
     c .no-plan2 .ensures
-    ∙ ap planAnswer (sym (second-bad s p q (x .matrix-line .ensures) (c .before .before .before .before .enum-told .given .1) (y .matrix-line2 .ensures) _ (c .before .before .of-my .given .1)))
+    ∙ ap planAnswer (sym (second-bad (head (c .before .before .before .before .before .before)) (c .before .before .before .before .enum-told .given .1) _ (c .before .before .of-my .given .1)))
 
 enum-told-2 : tie.Need-enum-told-2
 enum-told-2 c = search needs
@@ -84,26 +78,13 @@ enum-told-2 c = search needs
 read-natives-requires : tie.Need-read-natives-requires
 read-natives-requires c κs =
     let y = c .before .before .before .before .before .before in
-    let x = y .before .before .before in
-    let g = x .before .before .before in
-    let s = g .before .before .before .args .input .now in
-    let p = g .before .line-end .ensures .0 in
-    let q = g .line-end2 .ensures .0 in
-    let d = c .before .before .before .before .enum-told .given .1 in (
-      g .line-end2 .ensures .1,
-      (first-good s p q (x .matrix-line .ensures) d, second-good s p q (x .matrix-line .ensures) d (y .matrix-line2 .ensures) (c .before .before .enum-told2 .given .1)),
-    )
+    let d = c .before .before .before .before .enum-told .given .1 in
+    (y .before .before .before .before .before .before .line-end2 .ensures .1, (first-good (head y) d, second-good (head y) d (c .before .before .enum-told2 .given .1)))
 
 returns-3 : tie.Need-returns-3
 returns-3 c =
-    let y = c .before .before .before .before .before .before .before in
-    let x = y .before .before .before in
-    let g = x .before .before .before in
-    let s = g .before .before .before .args .input .now in
-    let p = g .before .line-end .ensures .0 in
-    let q = g .line-end2 .ensures .0 in
     c .read-natives .ensures
-    ∙ ap planAnswer (sym (both-read s p q (x .matrix-line .ensures) (c .before .before .before .before .before .enum-told .given .1) (y .matrix-line2 .ensures) (c .before .before .before .enum-told2 .given .1)))
+    ∙ ap planAnswer (sym (both-read (head (c .before .before .before .before .before .before .before)) (c .before .before .before .before .before .enum-told .given .1) (c .before .before .before .enum-told2 .given .1)))
 
 pub read-spec : {M : Type 1} → statement M
 read-spec =
