@@ -18,9 +18,11 @@ module _ (q : ℕ) (f e : ℕ → ℕ) (small : (n : ℕ) → f n < 4 ^ q) (fits
     | yes g ↦ S .tested p some (omega (arith, L .within)) .steady g n t w
     | no g ↦ L .clear p l (record {
       by = leads q f p n;
-      some = λ z. some (rotate-nonzero q p (f n) z);
       below = rotate-string q p (f n) (omega (arith, L .within, S .within)) (small n);
-      blames = record { low = omega arith; native = n; rotation = t; here = record { is = rotate-rotate q p (f n); high = w } };
+      holds = (
+        λ z. some (rotate-nonzero q p (f n) z),
+        record { low = omega arith; native = n; rotation = t; here = record { is = rotate-rotate q p (f n); high = w } },
+      );
     })
   ]
 
@@ -30,12 +32,13 @@ module _ (q : ℕ) (f e : ℕ → ℕ) (small : (n : ℕ) → f n < 4 ^ q) (fits
     where
       go : Blamed q f e top (4 ^ q) r → ⊥
       go b =
-          let n = b .blames .native in
-          let z = b .blames .here .is in
+          let a = b .holds .1 in
+          let n = a .native in
+          let z = a .here .is in
           let back : b .by ≡ leads q f r n = sym (rotate-rotate q (b .by) (f n)) ∙ ap (λ (x : ℕ). leads q f x n) z in
-          let some : r ≡ 0 → ⊥ = λ w. b .some (rotate-nonzero q (b .by) (f n) (z ∙ w)) in
-          rule-calm q f e r some (S .right r some l) fits rule n (b .blames .rotation)
-          (subst (λ (x : ℕ). height (e x) + 2 ≤ height (e r)) back (b .blames .here .high))
+          let some : r ≡ 0 → ⊥ = λ w. b .holds .0 (rotate-nonzero q (b .by) (f n) (z ∙ w)) in
+          rule-calm q f e r some (S .right r some l) fits rule n (a .rotation)
+          (subst (λ (x : ℕ). height (e x) + 2 ≤ height (e r)) back (a .here .high))
 
   pub sunk-stops : e 0 ≡ identity → Stops q f e r
   sunk-stops h = record {

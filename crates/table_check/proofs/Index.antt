@@ -77,12 +77,12 @@ module _ (q p : ℕ) (rs : List ℕ) (m : ℕ) (xs : List ℕ) (N : Neighbours q
     high-blames e top end r low = least-same (High e (height (e p)) xs m) (Blames q f e top p) end r
         (λ x a. record {
           low = low;
-          native = at (P .0) (a .place);
-          rotation = packed-rotation (a .place) (a .below);
-          here = record { is = sym (neighbours-lead (a .place) (a .below)) ∙ a .here .is; high = a .here .high };
+          native = at (P .0) (a .by);
+          rotation = packed-rotation (a .by) (a .below);
+          here = record { is = sym (neighbours-lead (a .by) (a .below)) ∙ a .holds .is; high = a .holds .high };
         })
         (λ x a. let k = led (a .native) (a .rotation) in
-        record { place = k .0; below = k .1; here = record { is = k .2 ∙ a .here .is; high = a .here .high } })
+        record { by = k .0; below = k .1; holds = record { is = k .2 ∙ a .here .is; high = a .here .high } })
 
 -- ---- one step down
 

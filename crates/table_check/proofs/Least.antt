@@ -6,7 +6,7 @@ use Prim.Native.Nat.{ℕ, _+_, _<_, _≤_}
 use native.Mathlib.Omega.{arith}
 use native.Mathlib.Decide.{ℕ-discrete, decLt}
 use Rattle.natives.specs.Arrays.{at}
-use Rattle.table_check.specs.Tests.{Least, HighAt, High, Blames, Blamed}
+use Rattle.table_check.specs.Tests.{Least, By, HighAt, High, Blames, Blamed}
 
 pub least-none : (M : ℕ → Type 0) (end : ℕ) → ((p : ℕ) → p < end → M p → ⊥) → Least M end end
 least-none M end h = record { within = omega arith; found = λ l. absurd (omega arith); clear = h }
@@ -29,39 +29,32 @@ least-more M N K end r s first next either a b = record {
       | no g ↦ let z : r ≡ s = omega (arith, b .within) in subst K z (first r (a .found (omega arith)))
     ]
 
--- ---- of the first strings of an array
+-- ---- by one number after another
 
+pub by-more : (N : ℕ → ℕ → Type 0) (i end r s : ℕ) → Least (By N i) end r → Least (N i) r s → Least (By N (i + 1)) end s
+by-more N i end r s = least-more (By N i) (N i) (By N (i + 1)) end r s
+    (λ p a. record { by = a .by; below = omega (arith, a .below); holds = a .holds })
+    (λ p a. record { by = i; below = omega arith; holds = a })
+    (λ p a. elim (ℕ-discrete (a .by) i) [
+      | yes z ↦ inr (subst (λ (j : ℕ). N j p) z (a .holds))
+      | no g ↦ inl (record { by = a .by; below = omega (arith, a .below); holds = a .holds })
+    ])
+
+-- of the first strings of an array
 module _ (e : ℕ → ℕ) (h : ℕ) (xs : List ℕ) where
   pub high-none : (end : ℕ) → Least (High e h xs 0) end end
   high-none end = least-none (High e h xs 0) end (λ p l a. omega (arith, a .below))
 
   pub high-more : (i end r s : ℕ) → Least (High e h xs i) end r → Least (HighAt e h (at xs i)) r s → Least (High e h xs (i + 1)) end s
-  high-more i end r s = least-more (High e h xs i) (HighAt e h (at xs i)) (High e h xs (i + 1)) end r s
-      (λ p a. record { place = a .place; below = omega (arith, a .below); here = a .here })
-      (λ p a. record { place = i; below = omega arith; here = a })
-      either
-    where
-      either : (p : ℕ) → High e h xs (i + 1) p → High e h xs i p ⊎ HighAt e h (at xs i) p
-      either p a = elim (ℕ-discrete (a .place) i) [
-        | yes z ↦ inr (subst (λ (j : ℕ). HighAt e h (at xs j) p) z (a .here))
-        | no g ↦ inl (record { place = a .place; below = omega (arith, a .below); here = a .here })
-      ]
+  high-more = by-more (λ (i : ℕ). HighAt e h (at xs i))
 
--- ---- from all strings below k
-
+-- from all strings below k
 module _ (q : ℕ) (f e : ℕ → ℕ) (top : ℕ) where
   pub blamed-none : (end : ℕ) → Least (Blamed q f e top 1) end end
-  blamed-none end = least-none (Blamed q f e top 1) end (λ p l a. a .some (omega (arith, a .below)))
+  blamed-none end = least-none (Blamed q f e top 1) end (λ p l a. a .holds .0 (omega (arith, a .below)))
 
   pub blamed-more : (k end r s : ℕ) → 1 ≤ k → Least (Blamed q f e top k) end r → Least (Blames q f e top k) r s
       → Least (Blamed q f e top (k + 1)) end s
-  blamed-more k end r s some = least-more (Blamed q f e top k) (Blames q f e top k) (Blamed q f e top (k + 1)) end r s
-      (λ p a. record { by = a .by; some = a .some; below = omega (arith, a .below); blames = a .blames })
-      (λ p a. record { by = k; some = λ z. omega arith; below = omega arith; blames = a })
-      either
-    where
-      either : (p : ℕ) → Blamed q f e top (k + 1) p → Blamed q f e top k p ⊎ Blames q f e top k p
-      either p a = elim (ℕ-discrete (a .by) k) [
-        | yes z ↦ inr (subst (λ (x : ℕ). Blames q f e top x p) z (a .blames))
-        | no g ↦ inl (record { by = a .by; some = a .some; below = omega (arith, a .below); blames = a .blames })
-      ]
+  blamed-more k end r s some a b =
+      let N : ℕ → ℕ → Type 0 = λ x p. (x ≡ 0 → ⊥) × Blames q f e top x p in
+      by-more N k end r s a (least-same (Blames q f e top k) (N k) r s (λ p c. (λ z. omega arith, c)) (λ p c. c .1) b)

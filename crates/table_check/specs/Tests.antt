@@ -121,11 +121,15 @@ pub record HighAt (e : ℕ → ℕ) (h x p : ℕ) : Type 0 where
   pub is : x ≡ p
   pub high : h + 2 ≤ height (e p)
 
+-- N holds of p by a number below k
+pub record By (N : ℕ → ℕ → Type 0) (k p : ℕ) : Type 0 where
+  pub by : ℕ
+  pub below : by < k
+  pub holds : N by p
+
 -- p is one of the first m of xs, and stands two or more above h
-pub record High (e : ℕ → ℕ) (h : ℕ) (xs : List ℕ) (m p : ℕ) : Type 0 where
-  pub place : ℕ
-  pub below : place < m
-  pub here : HighAt e h (at xs place) p
+abbrev pub High : (ℕ → ℕ) → ℕ → List ℕ → ℕ → ℕ → Type 0
+High e h xs = By (λ (i : ℕ). HighAt e h (at xs i))
 
 -- a rotation leads from x two or more up to p, and x is so low that such a string need not stand above top
 pub record Blames (q : ℕ) (f e : ℕ → ℕ) (top x p : ℕ) : Type 0 where
@@ -135,11 +139,8 @@ pub record Blames (q : ℕ) (f e : ℕ → ℕ) (top x p : ℕ) : Type 0 where
   pub here : HighAt e (height (e x)) (leads q f x native) p
 
 -- one does so from a nonzero string below k
-pub record Blamed (q : ℕ) (f e : ℕ → ℕ) (top k p : ℕ) : Type 0 where
-  pub by : ℕ
-  pub some : by ≡ 0 → ⊥
-  pub below : by < k
-  pub blames : Blames q f e top by p
+abbrev pub Blamed : ℕ → (ℕ → ℕ) → (ℕ → ℕ) → ℕ → ℕ → ℕ → Type 0
+Blamed q f e top = By (λ (x p : ℕ). (x ≡ 0 → ⊥) × Blames q f e top x p)
 
 -- ---- all indices
 
