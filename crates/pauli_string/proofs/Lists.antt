@@ -1,7 +1,7 @@
 -- Lists in reverse, and lists that a loop fills from the end. Assumes nothing.
 use mathlib.Core.Path.{_≡_, refl, ap, ap₂, _∙_}
 use mathlib.Core.Bool.{Bool, true, false}
-use mathlib.Core.List.{List, [], _∷_, _++_, reverse, reverse-cons, reverse-append}
+use mathlib.Core.List.{List, [], _∷_, _++_, reverse, reverse-cons}
 use Prim.Native.Nat.{ℕ, suc, _-_, _≤_, _<_}
 use native.Mathlib.Nat.{not-suc-le-zero}
 use native.Mathlib.Omega.{arith}
@@ -38,6 +38,3 @@ module _ {A : Type 0} where
           let j : i ≡ length (reverse l) = omega (arith, n) in
           let z : 0 ≡ suc (length l) - 1 - i = omega arith in
           ap (λ (m : ℕ). getD (reverse l ++ (x ∷ [])) m d) j ∙ getD-append-seam (reverse l) x [] d ∙ ap (λ (m : ℕ). getD (x ∷ l) m d) z
-
-  pub reverse-snoc : (l : List A) (a : A) → reverse (l ++ (a ∷ [])) ≡ a ∷ reverse l
-  reverse-snoc l a = reverse-append l (a ∷ [])

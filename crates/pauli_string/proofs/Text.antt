@@ -3,7 +3,7 @@ use mathlib.Core.Path.{_≡_, refl, sym, ap, ap₂, _∙_, subst}
 use mathlib.Core.Bool.{Bool, true, false, cond, _&&_, and-eq-true-iff, and-true, and-false, and-assoc, and-comm}
 use mathlib.Core.Logic.{_↔_}
 use mathlib.Mathlib.Data.List.Basic.{map-reverseAux}
-use mathlib.Core.List.{List, [], _∷_, _++_, map, map-append, reverse, reverse-cons, reverse-reverse}
+use mathlib.Core.List.{List, [], _∷_, _++_, map, map-append, reverse, reverse-cons, reverse-append, reverse-reverse}
 use Prim.Native.Nat.{ℕ, zero, suc, _+_, _-_, _*_, _/_, _%_, _^_, _≤_, _<_}
 use native.Mathlib.Nat.{mod-lt, le-of-suc-le-suc, not-suc-le-zero, le-refl, div-one, pow-suc, lt-of-lt-of-le}
 use native.Mathlib.Numerals.{add-one, one-add}
@@ -30,7 +30,7 @@ use Rattle.pauli_string.specs.Strings.{bit, letterAt}
 use Rattle.pauli_string.specs.Answers.{string, readText}
 use Rattle.pauli_string.specs.Text.{letters, number, stringOf, text, good, theLetter, letterOf, allLetters, isText, spelled}
 use Rattle.pauli_string.proofs.Digits.{bit-lt, bit-first, bit-high, bit-low}
-use Rattle.pauli_string.proofs.Lists.{getD-reverse, reverse-snoc, drop-set}
+use Rattle.pauli_string.proofs.Lists.{getD-reverse, drop-set}
 
 -- ---- arrays of letters
 
@@ -310,7 +310,7 @@ reading-more n s ls i l r h e =
           ∙ sym
           (ap (λ (m : List ℕ). reverse (map letterOf m)) front
           ∙ ap reverse (map-append letterOf (take i s) (getD s i 0 ∷ []))
-          ∙ reverse-snoc (map letterOf (take i s)) (letterOf (getD s i 0)));
+          ∙ reverse-append (map letterOf (take i s)) (letterOf (getD s i 0) ∷ []));
       all-good =
           ap allLetters front ∙ all-snoc (take i s) (getD s i 0)
           ∙ ap₂ (λ (a : Bool) (b : LetterAnswer). a && good b) (r .all-good) e;
