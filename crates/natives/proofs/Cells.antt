@@ -8,9 +8,10 @@ use Prim.Native.Nat.{ℕ, zero, suc, _+_, _-_, _*_, _/_, _%_, _^_, _<_, _≤_}
 use native.Mathlib.Nat.{mul-add, mul-one}
 use native.Mathlib.Omega.{arith}
 use lib.Bits.{bitAnd, and-block, and-mask, and-zero-r, and-le-r}
+use lib.ListN.{length, getD, set}
 use Rattle.bicycle_common.specs.declared.TwoBases.{TwoBases}
 use Rattle.bicycle_common.specs.Letters.{xOf, zOf}
-use Rattle.bicycle_common.proofs.Ranges.{lt-or-ge}
+use Rattle.bicycle_common.proofs.Ranges.{lt-or-ge, stored-at}
 use Rattle.bicycle_common.proofs.Letters.{xOf-lt, zOf-lt}
 use Rattle.native_measurement.specs.Natives.{natives, basesAt}
 use Rattle.measurement.specs.Matrices.{side, ofRows}
@@ -157,6 +158,12 @@ module _ (cs rs : List (List ℕ)) (hc : SmallCells cs) (hr : SmallCells rs) whe
         ∙ marked-masked _ _ (m .s) (n % 15) (column-lt (n / 15)) (row-lt (n / 15) (omega arith))
 
 -- ---- one block after another
+
+-- what is written at each place from b on
+pub stored-from : {A : Type 0} (P : ℕ → A → Type 0) (l : List A) (d : A) (b k : ℕ) (v : A) → b + k < length l
+    → ((t : ℕ) → t < k → P t (getD l (b + t) d)) → P k v → (t : ℕ) → t < k + 1 → P t (getD (set l (b + k) v) (b + t) d)
+stored-from P l d b k v hk h p t ht =
+    stored-at (P t) l d (b + t) (b + k) v hk (λ e. let q : t ≡ k = omega arith in rw q p) (λ e. h t (omega arith))
 
 pub block-more : (b n a : ℕ) (f g : ℕ → ℕ) (l m : List ℕ) → 0 < b → ((k : ℕ) → k < b → g k ≡ f (b * a + k))
     → Block b a g l m → Upto b n f a l → Upto b n f (a + 1) m

@@ -4,13 +4,12 @@ use mathlib.Core.List.{List, [], _∷_}
 use mathlib.Core.Path.{_≡_, refl, ap, ap₂, _∙_}
 use Prim.Native.Nat.{ℕ, _+_, _-_, _*_, _/_, _%_, _^_, _<_, _≤_}
 use native.Mathlib.Omega.{arith}
-use lib.ListN.{getD, length, set}
+use lib.ListN.{length}
 use Rattle.bicycle_common.specs.declared.AutomorphismData.{AutomorphismData}
 use Rattle.bicycle_common.specs.Letters.{xOf, zOf}
 use Rattle.bicycle_common.specs.Automorphisms.{component, ofPair, opposite, inverse}
 use Rattle.bicycle_common.specs.Ranges.{sum, listFrom, listed}
 use Rattle.bicycle_common.proofs.Letters.{digit-x, digit-z}
-use Rattle.bicycle_common.proofs.Ranges.{stored-at}
 use Rattle.pauli_string.specs.Strings.{bit}
 use Rattle.native_measurement.specs.Natives.{natives, ofRank, nativeOf, basesAt}
 use Rattle.measurement.specs.Matrices.{side, Matrix, ofBytes, one, mul, pow, Binary, Same}
@@ -185,11 +184,3 @@ place-digits c w k h =
     let a = letter-digits ((k + 1) / 4) (omega arith) in
     let b = letter-digits ((k + 1) % 4) (omega arith) in
     rw (a .0, a .1, b .0, b .1)
-
--- ---- the loops that write them
-
--- what is written at each place from b on
-pub stored-from : {A : Type 0} (P : ℕ → A → Type 0) (l : List A) (d : A) (b k : ℕ) (v : A) → b + k < length l
-    → ((t : ℕ) → t < k → P t (getD l (b + t) d)) → P k v → (t : ℕ) → t < k + 1 → P t (getD (set l (b + k) v) (b + t) d)
-stored-from P l d b k v hk h p t ht =
-    stored-at (P t) l d (b + t) (b + k) v hk (λ e. let q : t ≡ k = omega arith in rw q p) (λ e. h t (omega arith))

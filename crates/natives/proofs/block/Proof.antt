@@ -8,7 +8,7 @@ use lib.ListN.{length, length-set}
 use lib.Seq.{getD-set-other}
 use Rattle.natives.specs.Arrays.{at}
 use Rattle.natives.specs.Cells.{mask}
-use Rattle.natives.proofs.Grids.{stored-from}
+use Rattle.natives.proofs.Cells.{stored-from}
 use Rattle.natives.proofs.block.Statement.{statement}
 use Rattle.natives.proofs.block.Tie as tie
 

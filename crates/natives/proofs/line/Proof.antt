@@ -7,8 +7,7 @@ use lib.ListN.{length, length-set}
 use lib.Seq.{getD-set-other}
 use Rattle.natives.specs.Arrays.{at}
 use Rattle.natives.specs.Cells.{gridCell}
-use Rattle.natives.proofs.Grids.{stored-from}
-use Rattle.natives.proofs.Cells.{cell-at}
+use Rattle.natives.proofs.Cells.{cell-at, stored-from}
 use Rattle.natives.proofs.line.Statement.{statement}
 use Rattle.natives.proofs.line.Tie as tie
 
