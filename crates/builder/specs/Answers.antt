@@ -11,7 +11,7 @@ use Rattle.table.specs.Answers.{isTable, entries, deepest}
 use Rattle.builder.specs.declared.Built.{Built}
 use Rattle.builder.specs.declared.BuildAnswer.{BuildAnswer}
 use Rattle.builder.specs.declared.BuildAnswer.the-variants.{Is, Refused}
-use Rattle.builder.specs.Model.{State, built}
+use Rattle.discovery.specs.Model.{State, built}
 
 -- the number of entries, the greatest depth
 abbrev pub toldBuild : BuildAnswer → Told

@@ -24,10 +24,10 @@ use Rattle.table.specs.Answers.{isTable, entries, deepest, given}
 use Rattle.table.proofs.Answers.{is-given}
 use Rattle.builder.specs.declared.Built.{Built}
 use Rattle.builder.specs.declared.BuildAnswer.the-variants.{Is as WasBuilt}
-use Rattle.builder.specs.Model.{built}
-use Rattle.builder.specs.States.{twelve}
+use Rattle.discovery.specs.Model.{built}
+use Rattle.discovery.specs.States.{twelve}
 use Rattle.builder.specs.Answers.{After, done, build}
-use Rattle.builder.proofs.Meets as Meets
+use Rattle.discovery.proofs.Meets as Meets
 use Rattle.builder.proofs.Answers.{all-right, answered-built}
 use Rattle.table_check.specs.declared.CheckAnswer.{CheckAnswer}
 use Rattle.table_check.specs.declared.CheckAnswer.the-variants.{Accepted, Refused}

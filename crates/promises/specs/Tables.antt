@@ -23,11 +23,11 @@ use Rattle.table.specs.Plans.{Nonzero, Gives, Sequence}
 use Rattle.table.specs.Answers.{isTable, entries, deepest}
 use Rattle.table.proofs.Rules.{rules, rule-valid}
 use Rattle.table.proofs.Plans.{sequence-reaches, entry-sequence}
-use Rattle.builder.specs.Model.{built}
+use Rattle.discovery.specs.Model.{built}
 use Rattle.builder.specs.Answers.{toldBuild, build, done}
-use Rattle.builder.specs.States.{twelve}
-use Rattle.builder.proofs.Meets as Meets
-use Rattle.builder.proofs.States.{good-counts}
+use Rattle.discovery.specs.States.{twelve}
+use Rattle.discovery.proofs.Meets as Meets
+use Rattle.discovery.proofs.States.{good-counts}
 use Rattle.builder.proofs.Answers.{all-right}
 
 module _ (mx my : Matrix) where

@@ -1,2 +1,4 @@
 -- Laws of the packed rotations that belong to no one function.
 pub mod Packed
+pub mod Parity
+pub mod Moves

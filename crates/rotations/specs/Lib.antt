@@ -1,2 +1,3 @@
 -- What the contracts of `rotations` cite.
 pub mod Packed
+pub mod Moves

@@ -8,33 +8,33 @@ use native.Mathlib.Omega.{arith}
 use Rattle.bicycle_common.specs.Ranges.{inTurn}
 use Rattle.pauli_string.specs.Strings.{qubits}
 use Rattle.natives.specs.Arrays.{at}
-use Rattle.builder.specs.Model.{state, expand, built}
-use Rattle.builder.specs.States.{twelve, Good}
-use Rattle.builder.proofs.States.{count-below}
-use Rattle.builder.proofs.Meets.{seeded-good, built-good}
+use Rattle.discovery.specs.Model.{state, expand, built}
+use Rattle.discovery.specs.States.{twelve, Good}
+use Rattle.discovery.proofs.States.{count-below}
+use Rattle.discovery.proofs.Meets.{seeded-good, built-good}
 use Rattle.builder.proofs.Answers.{built-outcome}
 use Rattle.builder.proofs.build_from.Statement.{statement}
 use Rattle.builder.proofs.build_from.Tie as tie
 
-searched : (c : tie.After-search)
-    → state (c .search .last .0) (c .search .last .1 .0) (c .search .result) ≡ built qubits (at (c .before .before .before .before .before .before .before .before .before .before .before .before .before .before .before .before .before .before .before .before .args .strings .now))
+searched : (c : tie.After-search-unchecked)
+    → state (c .search-unchecked .last .0) (c .search-unchecked .last .1 .0) (c .search-unchecked .result) ≡ built qubits (at (c .before .before .before .before .before .before .before .before .before .before .before .before .before .before .before .before .before .before .before .before .args .strings .now))
 unfolding built
-searched c = c .search .ensures ∙ ap (inTurn (4 ^ qubits) (expand qubits (at (c .before .before .before .before .before .before .before .before .before .before .before .before .before .before .before .before .before .before .before .before .args .strings .now)))) (c .before .before .before .before .before .before .before .seeds .ensures .0)
+searched c = c .search-unchecked .ensures ∙ ap (inTurn (4 ^ qubits) (expand qubits (at (c .before .before .before .before .before .before .before .before .before .before .before .before .before .before .before .before .before .before .before .before .args .strings .now)))) (c .before .before .before .before .before .before .before .seeds-unchecked .ensures .0)
 
-searched-good : (c : tie.After-search) → Good qubits (built qubits (at (c .before .before .before .before .before .before .before .before .before .before .before .before .before .before .before .before .before .before .before .before .args .strings .now)))
+searched-good : (c : tie.After-search-unchecked) → Good qubits (built qubits (at (c .before .before .before .before .before .before .before .before .before .before .before .before .before .before .before .before .before .before .before .before .args .strings .now)))
 searched-good c = built-good qubits twelve (at (c .before .before .before .before .before .before .before .before .before .before .before .before .before .before .before .before .before .before .before .before .args .strings .now)) (c .before .before .before .before .before .before .before .before .before .before .before .before .before .before .before .before .before .before .before .before .pre .1 .0 .small)
 
-begin-requires : tie.Need-begin-requires
-begin-requires c κs = search needs
+begin-unchecked-requires : tie.Need-begin-unchecked-requires
+begin-unchecked-requires c κs = search needs
 
-seeds-requires : tie.Need-seeds-requires
-seeds-requires c κs = search needs
+seeds-unchecked-requires : tie.Need-seeds-unchecked-requires
+seeds-unchecked-requires c κs = search needs
 
-search-requires : tie.Need-search-requires
-search-requires c κs =
+search-unchecked-requires : tie.Need-search-unchecked-requires
+search-unchecked-requires c κs =
     let d = c .before .before .before .before .before .before in
     let s = d .before .before .before .before .before .before .before .before .before .before .before .before .before in
-    (s .pre .1, (subst (Good qubits) (sym (d .seeds .ensures .0)) (seeded-good qubits twelve (at (s .args .strings .now)) (s .pre .1 .0 .small)), d .seeds .ensures .1))
+    (s .pre .1, (subst (Good qubits) (sym (d .seeds-unchecked .ensures .0)) (seeded-good qubits twelve (at (s .args .strings .now)) (s .pre .1 .0 .small)), d .seeds-unchecked .ensures .1))
 
 deepest-unchecked-requires : tie.Need-deepest-unchecked-requires
 deepest-unchecked-requires c κs = search needs
@@ -42,7 +42,7 @@ deepest-unchecked-requires c κs = search needs
 add-t23 : tie.Need-add-t23
 add-t23 c =
     let e = c .before .before .before .before .before .before in
-    let w = state (e .search .last .0) (e .search .last .1 .0) (e .search .result) in
+    let w = state (e .search-unchecked .last .0) (e .search-unchecked .last .1 .0) (e .search-unchecked .result) in
     omega (arith, count-below qubits w (subst (Good qubits) (sym (searched e)) (searched-good e)))
 
 same-length : tie.Need-same-length
@@ -54,15 +54,15 @@ same-length-2 c = search needs
 returns : tie.Need-returns
 returns c =
     let e = c .before .before .before .before .before .before in
-    built-outcome qubits (e .search .last .0) (e .search .last .1 .0) (e .search .result) (c .deepest-unchecked .result) (built qubits (at (e .before .before .before .before .before .before .before .before .before .before .before .before .before .before .before .before .before .before .before .before .args .strings .now))) (searched e) (searched-good e) (c .deepest-unchecked .ensures)
+    built-outcome qubits (e .search-unchecked .last .0) (e .search-unchecked .last .1 .0) (e .search-unchecked .result) (c .deepest-unchecked .result) (built qubits (at (e .before .before .before .before .before .before .before .before .before .before .before .before .before .before .before .before .before .before .before .before .args .strings .now))) (searched e) (searched-good e) (c .deepest-unchecked .ensures)
 
 pub build-from-spec : {M : Type 1} → statement M
 build-from-spec =
     tie.close
     (tie.spec
-    begin-requires
-    seeds-requires
-    search-requires
+    begin-unchecked-requires
+    seeds-unchecked-requires
+    search-unchecked-requires
     deepest-unchecked-requires
     add-t23
     same-length
