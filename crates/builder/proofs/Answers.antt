@@ -9,12 +9,12 @@ use Rattle.bicycle_common.specs.declared.Refusal.the-variants.{TableLength, Que
 use Rattle.measurement.specs.Matrices.{ofBytes, isBytes}
 use Rattle.measurement.specs.Measures.{nativeString}
 use Rattle.table.specs.Answers.{isTable, entries, deepest}
-use Rattle.builder.specs.declared.Built.{Built}
-use Rattle.builder.specs.declared.BuildAnswer.the-variants.{Is, Refused}
 use Rattle.discovery.specs.Model.{State, state, built}
-use Rattle.builder.specs.Answers.{After, after, is, done, build}
 use Rattle.discovery.specs.States.{Good}
 use Rattle.discovery.proofs.States.{good-counts}
+use Rattle.builder.specs.declared.Built.{Built}
+use Rattle.builder.specs.declared.BuildAnswer.the-variants.{Is, Refused}
+use Rattle.builder.specs.Answers.{After, after, is, done, build}
 
 module _ (q s : ℕ) (t u mx my : List ℕ) where
   pub no-table : isTable q t ≡ false → after (Refused TableLength) t u ≡ build q s t u mx my

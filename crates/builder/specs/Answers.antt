@@ -8,10 +8,10 @@ use Rattle.bicycle_common.specs.Refusals.{Told, answered, refused}
 use Rattle.measurement.specs.Matrices.{ofBytes, isBytes}
 use Rattle.measurement.specs.Measures.{nativeString}
 use Rattle.table.specs.Answers.{isTable, entries, deepest}
+use Rattle.discovery.specs.Model.{State, built}
 use Rattle.builder.specs.declared.Built.{Built}
 use Rattle.builder.specs.declared.BuildAnswer.{BuildAnswer}
 use Rattle.builder.specs.declared.BuildAnswer.the-variants.{Is, Refused}
-use Rattle.discovery.specs.Model.{State, built}
 
 -- the number of entries, the greatest depth
 abbrev pub toldBuild : BuildAnswer → Told

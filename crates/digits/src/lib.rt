@@ -1,9 +1,8 @@
-// Binary digits in bytes, of which the builder has two uses: one for each string, behind a short queue, and one for each
-// bucket of strings, a filter that skips turns which can find nothing.
+// Binary digits in bytes: one for each string, or one for each bucket of strings, which is the filter of the search.
 //
-// The original has neither. Written in Rattle, with contracts, for the build in
-// crates/bicycle_cliffords/src/decomposition.rs of the Bicycle Architecture Compiler. Every call here is an inner one
-// between our crates.
+// Added: the original has neither. A filter shows of most strings that no rotation leads them to a string without an entry.
+// When it is filled makes a difference to the time alone, and the contracts say nothing of that. Every call here is an inner
+// one between our crates.
 //
 // Copyright contributors to the Bicycle Architecture Compiler project. Licensed under the Apache License, Version 2.0
 // (see NOTICE).

@@ -10,6 +10,7 @@ use native.Mathlib.Decide.{ℕ-discrete}
 use lib.Dec.{T, lit<}
 use lib.ListN.{length, getD, set, take, replicate, length-set, length-take, length-append, length-replicate, replicate-append-replicate, List·getD-append}
 use lib.Seq.{length-take-le, set-append-left, take-set-le, take-set-lt, getD-take, getD-set-other}
+use Rattle.bicycle_common.specs.Ranges.{inTurn}
 use Rattle.pauli_string.specs.Strings.{bit, setBit}
 use Rattle.natives.specs.Kept.{keptFor}
 use Rattle.shortest.specs.Graphs.{Has}
@@ -17,15 +18,14 @@ use Rattle.table.specs.Bytes.{entry, put, zeros}
 use Rattle.table.proofs.Bytes.{length-put, length-zeros, getD-zeros, entry-zeros, entry-put-same, entry-put-other}
 use Rattle.table.specs.Entries.{value, identity}
 use Rattle.table.proofs.Entries.{value-some}
-use Rattle.bicycle_common.specs.Ranges.{inTurn}
+use Rattle.digits.specs.Digits.{one}
+use Rattle.digits.proofs.Digits.{one-here, one-other}
 use Rattle.discovery.specs.Model.{State, state, discover, seed}
 use Rattle.discovery.specs.States.{Fits, Good, Asks}
 use Rattle.discovery.specs.Tried.{tried}
-use Rattle.digits.specs.Digits.{one}
 use Rattle.discovery.specs.Short.{fore, strung, note, noted, Notes, Room}
 use Rattle.discovery.proofs.Model.{discover-new, discover-old, seed-none, seed-some}
 use Rattle.discovery.proofs.States.{discovers}
-use Rattle.digits.proofs.Digits.{one-here, one-other}
 
 -- ---- the front
 

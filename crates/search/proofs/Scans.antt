@@ -12,14 +12,14 @@ use Rattle.natives.specs.Arrays.{at}
 use Rattle.table.specs.Bytes.{entry}
 use Rattle.table.specs.Entries.{depth}
 use Rattle.rotations.specs.Packed.{Rotations, Packed}
-use Rattle.discovery.specs.Model.{State, attempt, expand}
-use Rattle.discovery.specs.States.{Fits, Good, Moving}
-use Rattle.search.specs.Turns.{packedTried}
 use Rattle.rotations.specs.Moves.{Scratch}
 use Rattle.digits.specs.Filter.{Covers}
-use Rattle.search.specs.Scans.{Reaches}
+use Rattle.discovery.specs.Model.{State, attempt, expand}
+use Rattle.discovery.specs.States.{Fits, Good, Moving}
 use Rattle.discovery.proofs.Model.{expand-turn, expand-idle}
 use Rattle.discovery.proofs.States.{tried-asks, moving-asks, rotate-beside, listed-moving, count-below}
+use Rattle.search.specs.Turns.{packedTried}
+use Rattle.search.specs.Scans.{Reaches}
 use Rattle.search.proofs.Turns.{packed-same}
 use Rattle.search.proofs.Idle.{covers-turn}
 

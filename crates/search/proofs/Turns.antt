@@ -1,6 +1,6 @@
 -- Trying the packed rotations is trying all natives, and trying only what moves the string is trying the packed rotations: a native that is no
 -- rotation does nothing, and a rotation that commutes leads to the string itself, which has an entry. Assumes nothing.
-use mathlib.Core.Path.{_≡_, refl, sym, ap, ap₂, subst, _∙_}
+use mathlib.Core.Path.{_≡_, sym, ap, ap₂, subst, _∙_}
 use mathlib.Core.List.{List}
 use Prim.Native.Nat.{ℕ, _^_, _<_}
 use native.Mathlib.Omega.{arith}

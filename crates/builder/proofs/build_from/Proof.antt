@@ -1,6 +1,5 @@
 -- `builder::build_from` meets its contract: the state after each part of the work is the model's, and what is answered is counted in it.
 -- Assumes nothing.
--- after the search the state is the model's
 use borrow.Author.Needs.{needs}
 use mathlib.Core.Path.{_≡_, sym, ap, subst, _∙_}
 use Prim.Native.Nat.{_^_}
@@ -16,6 +15,7 @@ use Rattle.builder.proofs.Answers.{built-outcome}
 use Rattle.builder.proofs.build_from.Statement.{statement}
 use Rattle.builder.proofs.build_from.Tie as tie
 
+-- after the search the state is the model's
 searched : (c : tie.After-search-unchecked)
     → state (c .search-unchecked .last .0) (c .search-unchecked .last .1 .0) (c .search-unchecked .result) ≡ built qubits (at (c .before .before .before .before .before .before .before .before .before .before .before .before .before .before .before .before .before .before .before .before .args .strings .now))
 unfolding built

@@ -6,8 +6,8 @@ use Rattle.measurement.specs.Matrices.{side, ofBytes}
 use Rattle.measurement.specs.Measures.{nativeString}
 use Rattle.natives.specs.Arrays.{at}
 use Rattle.natives.proofs.Arrays.{natives-at, natives-held, natives-flagged}
-use Rattle.builder.specs.Answers.{done}
 use Rattle.discovery.proofs.Same.{built-same}
+use Rattle.builder.specs.Answers.{done}
 use Rattle.builder.proofs.build_pair.Statement.{statement}
 use Rattle.builder.proofs.build_pair.Tie as tie
 

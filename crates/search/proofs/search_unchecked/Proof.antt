@@ -9,10 +9,10 @@ use Rattle.bicycle_common.proofs.Ranges.{in-turn-none}
 use Rattle.pauli_string.specs.Strings.{qubits}
 use Rattle.natives.specs.Arrays.{at}
 use Rattle.rotations.proofs.Packed.{packed-fresh}
+use Rattle.digits.proofs.Filter.{covers-fresh}
 use Rattle.discovery.specs.Model.{state, expand}
 use Rattle.discovery.specs.States.{Good}
 use Rattle.discovery.specs.Short.{strung}
-use Rattle.digits.proofs.Filter.{covers-fresh}
 use Rattle.discovery.proofs.Short.{length-strung}
 use Rattle.search.proofs.Scans.{reaches-all}
 use Rattle.search.proofs.search_unchecked.Statement.{statement}

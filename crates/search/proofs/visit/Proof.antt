@@ -7,11 +7,11 @@ use Rattle.bicycle_common.specs.Ranges.{inTurn}
 use Rattle.pauli_string.specs.Strings.{qubits}
 use Rattle.table.specs.Bytes.{entry}
 use Rattle.table.specs.Entries.{depth}
+use Rattle.digits.specs.Filter.{bucket}
 use Rattle.discovery.specs.Model.{state}
 use Rattle.discovery.specs.States.{Moving}
-use Rattle.search.specs.Turns.{packedTried}
-use Rattle.digits.specs.Filter.{bucket}
 use Rattle.discovery.specs.Short.{strung}
+use Rattle.search.specs.Turns.{packedTried}
 use Rattle.search.proofs.Idle.{covers-idle}
 use Rattle.search.proofs.visit.Statement.{statement}
 use Rattle.search.proofs.visit.Tie as tie

@@ -12,10 +12,10 @@ use Rattle.natives.specs.Arrays.{at}
 use Rattle.table.specs.Entries.{value}
 use Rattle.discovery.specs.Model.{State, state, discover}
 use Rattle.discovery.specs.States.{twelve, Good, Asks}
-use Rattle.search.specs.Turns.{listedTried}
 use Rattle.discovery.specs.Short.{strung, Notes}
 use Rattle.discovery.proofs.Short.{room-less, tried-count}
 use Rattle.discovery.proofs.States.{tried-asks}
+use Rattle.search.specs.Turns.{listedTried}
 use Rattle.search.proofs.visits.Statement.{statement}
 use Rattle.search.proofs.visits.Tie as tie
 
