@@ -121,6 +121,10 @@ pub length-noted : (short : Bool) (l : List ℕ) (x : ℕ) → length (noted sho
 length-noted true l x = length-set l ((520093696 + x) / 8) (setBit (getD l ((520093696 + x) / 8) 0) ((520093696 + x) % 8) 1)
 length-noted false l x = refl
 
+-- a queue that is not short has no digits
+pub notes-long : (q : ℕ) (l t : List ℕ) → Notes false q l t
+notes-long q l t s = absurd (subst T (sym s) tt)
+
 -- a string that gets an entry gets its digit
 notes-more : (q : ℕ) (l t t′ : List ℕ) (x : ℕ) → (520093696 + x) / 8 < length l → Has (entry t′) x → ((y : ℕ) → (y ≡ x → ⊥) → entry t′ y ≡ entry t y)
     → ((y : ℕ) → y < 4 ^ q → (y ≡ x → ⊥) → (note l y ≡ 1 → Has (entry t) y) × ((note l y ≡ 1 → ⊥) → entry t y ≡ 0)) → Notes true q (one l (520093696 + x)) t′
@@ -141,7 +145,7 @@ notes-found : (short : Bool) (q : ℕ) (l t t′ : List ℕ) (c x : ℕ) → (52
 notes-found true q l t t′ c x b r g keeps h =
     notes-more q (put l c x) t t′ x (subst (λ (n : ℕ). (520093696 + x) / 8 < n) (sym (length-put l c x)) b) g keeps
     (λ y k f. let o : note (put l c x) y ≡ note l y = note-put l c x y (omega (arith, r refl)) in (λ d. h refl y k .0 (sym o ∙ d), λ d. h refl y k .1 (λ z. d (o ∙ z))))
-notes-found false q l t t′ c x b r g keeps h = λ s. absurd (subst T (sym s) tt)
+notes-found false q l t t′ c x b r g keeps h = notes-long q (put l c x) t′
 
 note-zeros : (k x : ℕ) → note (zeros k) x ≡ 1 → ⊥
 unfolding bit

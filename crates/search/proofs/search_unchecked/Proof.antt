@@ -4,7 +4,6 @@ use mathlib.Core.Path.{refl, sym, ap, subst, _∙_}
 use mathlib.Core.Bool.{true}
 use mathlib.Core.List.{List}
 use native.Mathlib.Omega.{arith}
-use lib.Dec.{T}
 use Rattle.bicycle_common.proofs.Ranges.{in-turn-none}
 use Rattle.pauli_string.specs.Strings.{qubits}
 use Rattle.natives.specs.Arrays.{at}
@@ -13,7 +12,7 @@ use Rattle.digits.proofs.Filter.{covers-fresh}
 use Rattle.discovery.specs.Model.{state, expand}
 use Rattle.discovery.specs.States.{Good}
 use Rattle.discovery.specs.Short.{strung}
-use Rattle.discovery.proofs.Short.{length-strung}
+use Rattle.discovery.proofs.Short.{length-strung, notes-long}
 use Rattle.search.proofs.Scans.{reaches-all}
 use Rattle.search.proofs.search_unchecked.Statement.{statement}
 use Rattle.search.proofs.search_unchecked.Tie as tie
@@ -46,7 +45,7 @@ scan-requires-2 c κs =
         n .scan .ensures .1,
         subst (λ (l : List _). Good qubits (state (n .scan .last .0) l (n .scan .result .count))) (sym (q .clear-from .ensures)) (n .scan .ensures .2 .good),
       ),
-      (λ e. absurd (subst T (sym e) tt), n .scan .ensures .2 .place),
+      (notes-long qubits (q .clear-from .last .0) (n .scan .last .0), n .scan .ensures .2 .place),
     )
 
 same-length : tie.Need-same-length
