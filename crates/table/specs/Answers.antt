@@ -1,6 +1,6 @@
 -- What each public call answers: 1 for bytes that are no table of the strings of q letters, 4 for a number that is no string, 7 where there is
 -- no value. The lowest number that applies is given. Assumes nothing.
-use mathlib.Core.Bool.{Bool, cond, _&&_}
+use mathlib.Core.Bool.{Bool, cond, not, _&&_}
 use mathlib.Core.List.{List, [], _∷_}
 use Prim.Native.Nat.{ℕ, _^_}
 use lib.Dec.{eqb}
@@ -53,6 +53,14 @@ lenOf q t = cond (isTable q t) (NumberIs (entries q t)) (NoNumber TableLength)
 
 abbrev pub valueAt : ℕ → List ℕ → ℕ → NumberAnswer
 valueAt q t p = cond (isTable q t) (cond (isString q p) (NumberIs (entry t p)) (NoNumber StringRange)) (NoNumber TableLength)
+
+-- whether a value is an entry, where there is no refusal
+abbrev pub isEntry : NumberAnswer → BoolAnswer
+isEntry (NumberIs v) = BoolIs (not (eqb v 0))
+isEntry (NoNumber r) = NoBool r
+
+abbrev pub hasEntryAt : ℕ → List ℕ → ℕ → BoolAnswer
+hasEntryAt q t p = isEntry (valueAt q t p)
 
 -- what is answered of a value, where there is no refusal
 abbrev pub ofValue : (ℕ → NumberAnswer) → NumberAnswer → NumberAnswer

@@ -23,7 +23,7 @@ ghost use Rattle.bicycle_common.specs.Ranges.{allBelow};
 ghost use Rattle.pauli_string.specs.Strings.{qubits};
 ghost use Rattle.measurement.specs.Matrices.{side};
 ghost use Rattle.table.specs.Bytes.{tableLength, entry, put, zeros};
-ghost use Rattle.table.specs.Answers.{given, isEmpty, entries, lenOf, deepest, valueAt, depthAt, fieldAt, costed, costAt};
+ghost use Rattle.table.specs.Answers.{given, isEmpty, entries, lenOf, deepest, valueAt, hasEntryAt, depthAt, fieldAt, costed, costAt};
 
 // The bytes of a table: four for each of the 4^12 strings
 pub const TABLE_LENGTH: usize = 67108864;
@@ -182,6 +182,16 @@ pub fn value(table: &[u8], p: PauliString) -> NumberAnswer
         return NumberAnswer::Refused(Refusal::StringRange);
     }
     NumberAnswer::Is(entry_unchecked(table, p.0))
+}
+
+// Whether string p has an entry: a value that is not 0.
+pub fn has_entry(table: &[u8], p: PauliString) -> BoolAnswer
+    ensures { λ r. ⌜ r ≡ hasEntryAt qubits (now (table .entry)) (p .0) ⌝ }
+{
+    match value(table, p) {
+        NumberAnswer::Is(v) => BoolAnswer::Is(v != 0),
+        NumberAnswer::Refused(r) => BoolAnswer::Refused(r),
+    }
 }
 
 // The depth at string p, 0 where there is no value.
