@@ -1,0 +1,61 @@
+// A view that holds the lent table and serves reads: each is one call of `table` on the slice held.
+//
+// From `MeasurementTableEntry`, `len`, `is_empty` and `cost` in crates/bicycle_cliffords/src/decomposition.rs of the
+// Bicycle Architecture Compiler. Changed: written anew in Rattle, with contracts.
+//
+// Copyright contributors to the Bicycle Architecture Compiler project. Licensed under the Apache License, Version 2.0
+// (see NOTICE).
+use pauli_string::BoolAnswer;
+use pauli_string::PauliString;
+use table::NumberAnswer;
+ghost use mathlib.Core.Path.{_≡_};
+ghost use Rattle.pauli_string.specs.Strings.{qubits};
+ghost use Rattle.table.specs.Answers.{isEmpty, lenOf, valueAt, hasEntryAt, depthAt, costAt};
+
+pub struct MeasurementTable<'a> {
+    table: &'a [u8],
+}
+
+impl<'a> MeasurementTable<'a> {
+    pub fn new(table: &'a [u8]) -> MeasurementTable<'a>
+        ensures { λ r. ⌜ r .table ≡ table .entry ⌝ }
+    {
+        MeasurementTable { table }
+    }
+
+    pub fn is_empty(self) -> BoolAnswer
+        ensures { λ r. ⌜ r ≡ isEmpty qubits (now (self .entry .table)) ⌝ }
+    {
+        table::is_empty(self.table)
+    }
+
+    pub fn len(self) -> NumberAnswer
+        ensures { λ r. ⌜ r ≡ lenOf qubits (now (self .entry .table)) ⌝ }
+    {
+        table::len(self.table)
+    }
+
+    pub fn value(self, p: PauliString) -> NumberAnswer
+        ensures { λ r. ⌜ r ≡ valueAt qubits (now (self .entry .table)) (p .0) ⌝ }
+    {
+        table::value(self.table, p)
+    }
+
+    pub fn has_entry(self, p: PauliString) -> BoolAnswer
+        ensures { λ r. ⌜ r ≡ hasEntryAt qubits (now (self .entry .table)) (p .0) ⌝ }
+    {
+        table::has_entry(self.table, p)
+    }
+
+    pub fn depth(self, p: PauliString) -> NumberAnswer
+        ensures { λ r. ⌜ r ≡ depthAt qubits (now (self .entry .table)) (p .0) ⌝ }
+    {
+        table::depth(self.table, p)
+    }
+
+    pub fn cost(self, p: PauliString) -> NumberAnswer
+        ensures { λ r. ⌜ r ≡ costAt qubits (now (self .entry .table)) (p .0) ⌝ }
+    {
+        table::cost(self.table, p)
+    }
+}
