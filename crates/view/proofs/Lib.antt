@@ -1,2 +1,3 @@
--- The law of a read.
+-- How the functions over the view are walked: what is the same in each, and the two laws of its reads.
+pub mod Stated
 pub mod Asked
