@@ -53,6 +53,10 @@ slice = SliceRefOf (0 ∷ []) tt (plain (λ _. u8)) (λ _. tt)
 abbrev pub string : Slot 1
 string = plain (λ _. P.the-row)
 
+-- what a view is made of
+abbrev pub holds : (κs : Lfts 1) → Denots (typesAt (slice ∷ []) κs) → MeasurementTable → Type 0
+holds κs a r = r .table ≡ a .0
+
 -- a slice in a local
 abbrev sliced : Local
 sliced = local (tyStruct (38 ∷ 91 ∷ 93 ∷ []) (tcons (tyRef erased imm (tyInt w8)) (tcons (tyInt w64) tnil))) valueLocal

@@ -65,7 +65,7 @@ module _ {M : Type 1} (𝓤 : URA M) (H : Heap 𝓤) (A : Atoms 𝓤) (W : Given
 
 -- ---- its code is entered and left
 module _ (ss : List (Slot 1)) (ρ : Lfts 1 → RattleType) (φ : (κs : Lfts 1) → Denots (typesAt ss κs) → ρ κs .Denot → Type 0) {M : Type 1} (𝓤 : URA M) (H : Heap 𝓤) (A : Atoms 𝓤) where
-  abbrev binds : (κ : Lft) (q : Share) (a : Denots (typesAt ss (κ, tt))) → Valss (typesAt ss (κ, tt)) → Stated ss ρ φ 𝓤 H A .Ghost
+  abbrev pub binds : (κ : Lft) (q : Share) (a : Denots (typesAt ss (κ, tt))) → Valss (typesAt ss (κ, tt)) → Stated ss ρ φ 𝓤 H A .Ghost
   binds κ q a vss = (((κ, tt), (q, tt), tt, a, vss), tt)
 
   -- what is to be had when the function returns

@@ -1,1 +1,2 @@
--- What the contracts of `view` cite.
+-- What the contracts of `view` cite beside `table`'s definitions.
+pub mod Answers

@@ -11,6 +11,7 @@ use table::NumberAnswer;
 ghost use mathlib.Core.Path.{_≡_};
 ghost use Rattle.pauli_string.specs.Strings.{qubits};
 ghost use Rattle.table.specs.Answers.{isEmpty, lenOf, valueAt, hasEntryAt, depthAt, costAt};
+ghost use Rattle.view.specs.Answers.{entryAt};
 
 pub struct MeasurementTable<'a> {
     table: &'a [u8],
@@ -57,5 +58,26 @@ impl<'a> MeasurementTable<'a> {
         ensures { λ r. ⌜ r ≡ costAt qubits (now (self .entry .table)) (p .0) ⌝ }
     {
         table::cost(self.table, p)
+    }
+}
+
+// What is told of a string.
+pub struct EntryAnswer {
+    pub value: NumberAnswer,
+    pub has_entry: BoolAnswer,
+    pub depth: NumberAnswer,
+    pub cost: NumberAnswer,
+}
+
+// All that the view tells of string p. With plain parameters, so that its callers are covered.
+pub fn entry(table: &[u8], p: PauliString) -> EntryAnswer
+    ensures { λ r. ⌜ r ≡ entryAt qubits (now (table .entry)) (p .0) ⌝ }
+{
+    let view = MeasurementTable::new(table);
+    EntryAnswer {
+        value: view.value(p),
+        has_entry: view.has_entry(p),
+        depth: view.depth(p),
+        cost: view.cost(p),
     }
 }

@@ -1,16 +1,15 @@
 -- `view::MeasurementTable::new` meets its contract: a walk of its MIR. The view is made of the slice passed, and owns what the slice owns. Assumes nothing.
-use mathlib.Core.Path.{_≡_, refl}
+use mathlib.Core.Path.{refl}
 use mathlib.Core.List.{[], _∷_}
 use lib.ListN.{length}
 use mir.Syntax.{named}
 use mir.Val.{Val}
 use base.Fml.{ftrue, flft}
-use contract.Lifetimes.{Lfts}
 use contract.Running.{givenOf, tables}
 use types.Kit.{Given, ‵, _⊛_, _$_, _∵_, !, qed, by, move, use1}
 use types.Part.{agg}
 use types.Run.{look, init, forget, stop, from, load, and-then, no-more, assigns, returns, enter, alloc1, alloc0, params1, pass1, pass0, free1, free0}
-use denote.RattleType.{Denots, owns}
+use denote.RattleType.{owns}
 use denote.Laws.{Typed}
 use denote.Builtin.{u8}
 use denote.Ref.{NamedLft}
@@ -21,13 +20,10 @@ use Rattle.view.specs.declared.MeasurementTable.{MeasurementTable}
 use Rattle.view.proofs.MeasurementTable as T
 use Rattle.view.proofs.MeasurementTable.Laws as T′
 use Rattle.view.proofs.Stated.{ends, proved}
-use Rattle.view.proofs.Asked.{held, slice}
+use Rattle.view.proofs.Asked.{held, slice, holds}
 use Rattle.view.proofs.MeasurementTable.new.Key.{name}
 use Rattle.view.proofs.MeasurementTable.new.Statement.{statement}
 use Rattle.view.proofs.MeasurementTable.new.Code as code
-
-abbrev holds : (κs : Lfts 1) → Denots (typesAt (slice ∷ []) κs) → MeasurementTable → Type 0
-holds κs a r = r .table ≡ a .0
 
 pub new-spec : {M : Type 1} → statement M
 unfolding code.routine
