@@ -1,9 +1,10 @@
 // The measurement table: lent bytes, read entry by entry.
 //
-// From `MeasurementTableEntry`, `len`, `is_empty` and `cost` in crates/bicycle_cliffords/src/decomposition.rs of the
-// Bicycle Architecture Compiler. Changed: written anew in Rattle, with contracts; a vector of entries became lent bytes,
-// four for each string, holding 1024·depth + field; `is_empty` answers true exactly when every value is 0, where the
-// original's answers true when there is an entry; each call tests the table's length and the string.
+// From `MeasurementTableEntry`, `get`, `len`, `is_empty` and `cost` in crates/bicycle_cliffords/src/decomposition.rs of
+// the Bicycle Architecture Compiler. Changed: written anew in Rattle, with contracts; a vector of entries became lent
+// bytes, four for each string, holding 1024·depth + field; `get` became `value` and `has_entry`; `is_empty` answers true
+// exactly when every value is 0, where the original's answers true when there is an entry; each call tests the table's
+// length and the string.
 // A call that ends in `_unchecked` is an inner one between our crates.
 //
 // Copyright contributors to the Bicycle Architecture Compiler project. Licensed under the Apache License, Version 2.0

@@ -1,7 +1,8 @@
-// A view that holds the lent table and serves reads: each is one call of `table` on the slice held.
+// A view that holds a lent table and serves reads: each is one call of `table` on the slice held.
 //
-// From `MeasurementTableEntry`, `len`, `is_empty` and `cost` in crates/bicycle_cliffords/src/decomposition.rs of the
-// Bicycle Architecture Compiler. Changed: written anew in Rattle, with contracts.
+// From `CompleteMeasurementTable`, `get`, `len`, `is_empty` and `cost` in crates/bicycle_cliffords/src/decomposition.rs of
+// the Bicycle Architecture Compiler. Changed: written anew in Rattle, with contracts; the view owns no table but holds
+// lent bytes, so that each read tests their length, and the string; `get` became `value`, `has_entry` and `entry`.
 //
 // Copyright contributors to the Bicycle Architecture Compiler project. Licensed under the Apache License, Version 2.0
 // (see NOTICE).
@@ -13,6 +14,7 @@ ghost use Rattle.pauli_string.specs.Strings.{qubits};
 ghost use Rattle.table.specs.Answers.{isEmpty, lenOf, valueAt, hasEntryAt, depthAt, costAt};
 ghost use Rattle.view.specs.Answers.{entryAt};
 
+// The view. It is Copy: a read takes it by value.
 pub struct MeasurementTable<'a> {
     table: &'a [u8],
 }
@@ -61,7 +63,7 @@ impl<'a> MeasurementTable<'a> {
     }
 }
 
-// What is told of a string.
+// All that is told of a string.
 pub struct EntryAnswer {
     pub value: NumberAnswer,
     pub has_entry: BoolAnswer,
@@ -69,7 +71,7 @@ pub struct EntryAnswer {
     pub cost: NumberAnswer,
 }
 
-// All that the view tells of string p. With plain parameters, so that its callers are covered.
+// Asks a view of the table all that it tells of string p. Its parameters are plain, so that a caller needs no walk.
 pub fn entry(table: &[u8], p: PauliString) -> EntryAnswer
     ensures { λ r. ⌜ r ≡ entryAt qubits (now (table .entry)) (p .0) ⌝ }
 {
