@@ -274,6 +274,19 @@ fn values(table: &[u8], p: PauliString) {
     number(b"cost", table::cost(table, p));
 }
 
+// The same reads, by a view of the table.
+fn viewed(table: &[u8], p: PauliString) {
+    let entry = view::entry(table, p);
+    let value = entry.value;
+    let has_entry = entry.has_entry;
+    let depth = entry.depth;
+    let cost = entry.cost;
+    number(b"viewed value", value);
+    flag(b"has entry", has_entry);
+    number(b"viewed depth", depth);
+    number(b"viewed cost", cost);
+}
+
 fn lookups(table: &[u8], mx: &[u8], my: &[u8], p: PauliString) {
     let mut out = [OTHER; 4];
     let exact = lookup::implementation(table, mx, my, p, &mut out);
@@ -292,6 +305,7 @@ fn reads(table: &[u8], mx: &[u8], my: &[u8], p: PauliString) {
     given(table::given(table, mx, my));
     check(table_check::check(table, mx, my));
     values(table, p);
+    viewed(table, p);
     lookups(table, mx, my, p);
 }
 
