@@ -3,7 +3,7 @@ use mathlib.Core.Bool.{Bool, _&&_}
 use mathlib.Core.List.{List, []}
 use mathlib.Core.Path.{_≡_}
 use Prim.Native.Nat.{ℕ, zero, suc, _+_, _*_, _/_, _%_, _<_, _≤_}
-use lib.Dec.{eqb, leb, ltb}
+use lib.Dec.{eqb, leb}
 use lib.ListN.{length, getD}
 use Rattle.bicycle_common.specs.Ranges.{sum, allBelow, listed}
 use Rattle.bicycle_common.specs.Letters.{flag}
@@ -54,10 +54,6 @@ Binary s m = (i k : ℕ) → i < s → k < s → m i k ≤ 1
 -- bytes hold a matrix of zeros and ones: there are s * s of them, and none is over 1
 abbrev pub isBytes : ℕ → List ℕ → Bool
 isBytes s m = eqb (length m) (s * s) && isBinary s (ofBytes s m)
-
--- how many of the first n numbers are over 1
-abbrev pub overs : List ℕ → ℕ → ℕ
-overs m n = sum n (λ (q : ℕ). flag (ltb 1 (getD m q 0)))
 
 -- two matrices agree below the side
 abbrev pub Same : ℕ → Matrix → Matrix → Type 0

@@ -3,7 +3,7 @@ use borrow.Author.Needs.{needs}
 use mathlib.Core.Path.{sym, ap, _∙_}
 use Prim.Native.Nat.{ℕ}
 use lib.Dec.{eqb}
-use Rattle.measurement.proofs.Matrices.{bytes-short, bytes-counted}
+use Rattle.measurement.proofs.Counted.{bytes-short, bytes-counted}
 use Rattle.measurement.proofs.is_matrix.Statement.{statement}
 use Rattle.measurement.proofs.is_matrix.Tie as tie
 

@@ -9,7 +9,7 @@ use Rattle.bicycle_common.specs.Ranges.{sum}
 use Rattle.bicycle_common.specs.Letters.{flag}
 use Rattle.bicycle_common.proofs.Ranges.{sum-next, sum-le}
 use Rattle.bicycle_common.proofs.Letters.{flag-le}
-use Rattle.measurement.specs.Matrices.{overs}
+use Rattle.measurement.specs.Overs.{overs}
 use Rattle.measurement.proofs.overs.Statement.{statement}
 use Rattle.measurement.proofs.overs.Tie as tie
 
