@@ -13,8 +13,8 @@ use Rattle.pauli_string.specs.Answers.{string}
 use Rattle.native_measurement.specs.declared.ImplementationAnswer.the-variants.{Refused as NoInstructions}
 use Rattle.native_measurement.specs.Natives.{natives, nativeOf}
 use Rattle.native_measurement.specs.Answers.{implementation, implementationAt}
-use Rattle.measurement.specs.Matrices.{ofBytes, isBytes}
-use Rattle.measurement.specs.Measures.{nativeString}
+use Rattle.measurement.specs.Matrices.{isBytes}
+use Rattle.measurement.specs.Measures.{pairString}
 use Rattle.measurement.specs.Answers.{measuresBytes}
 use Rattle.compile.specs.Expansions.{around, rotationBy, rotationIf, rotationInstructions}
 use Rattle.bicycle.specs.Flat.{narrow}
@@ -33,7 +33,7 @@ implementation-narrow n = narrow-same (λ (k : ℕ). implementation (nativeOf k)
 
 module _ (s : ℕ) (mx my : List ℕ) (n : ℕ) where
   pub measures-narrow : measuresBytes s mx my (narrow n) ≡ measuresBytes s mx my n
-  measures-narrow = ap (λ (a : StringAnswer). cond (isBytes s mx && isBytes s my) a (NoString Matrix)) (narrow-same (λ (k : ℕ). string (nativeString s (ofBytes s mx) (ofBytes s my) k)) (NoString NativeRange) n)
+  measures-narrow = ap (λ (a : StringAnswer). cond (isBytes s mx && isBytes s my) a (NoString Matrix)) (narrow-same (λ (k : ℕ). string (pairString s mx my k)) (NoString NativeRange) n)
 
   by-string : (q : ℕ) (a : StringAnswer) → rotationIf q (narrow n) a ≡ rotationIf q n a
   unfolding rotationBy

@@ -10,8 +10,7 @@ use Rattle.bicycle_common.specs.declared.Refusal.the-variants.{StringRange, Ide
 use Rattle.bicycle_common.specs.declared.Outcome.{Outcome}
 use Rattle.bicycle_common.specs.declared.Outcome.the-variants.{Done, Refused as NotDone}
 use Rattle.pauli_string.specs.Strings.{isString, hasPivot}
-use Rattle.measurement.specs.Matrices.{ofBytes}
-use Rattle.measurement.specs.Measures.{nativeString}
+use Rattle.measurement.specs.Measures.{pairString}
 use Rattle.table.specs.Bytes.{entry}
 use Rattle.table.specs.Entries.{depth, named}
 use Rattle.table.specs.Answers.{given}
@@ -57,7 +56,7 @@ plans q f e p b n d l m hb hn hd hm = record {
 module _ (any : Bool) (q s : ℕ) (t mx my : List ℕ) (p room : ℕ) where
   -- what the table decides
   abbrev decided : Lookup
-  decided = sought q (nativeString s (ofBytes s mx) (ofBytes s my)) (entry t) any p room
+  decided = sought q (pairString s mx my) (entry t) any p room
 
   -- what follows the tests of the table and the pair
   abbrev asked : Lookup

@@ -10,8 +10,7 @@ use Rattle.bicycle_common.specs.declared.Refusal.the-variants.{StringRange, NoE
 use Rattle.bicycle_common.specs.declared.Outcome.{Outcome}
 use Rattle.bicycle_common.specs.declared.Outcome.the-variants.{Done, Refused as NotDone}
 use Rattle.pauli_string.specs.Strings.{isString}
-use Rattle.measurement.specs.Matrices.{ofBytes}
-use Rattle.measurement.specs.Measures.{nativeString}
+use Rattle.measurement.specs.Measures.{pairString}
 use Rattle.table.specs.Bytes.{entry}
 use Rattle.table.specs.Entries.{depth}
 use Rattle.table.specs.Answers.{given}
@@ -43,9 +42,9 @@ module _ (P : Lookup → Type 0) where
     passed-case (NotDone r) o h = no r
 
     pub looked-up-case : (any : Bool) (q s : ℕ) (t mx my : List ℕ) (p room : ℕ)
-        → P (sought q (nativeString s (ofBytes s mx) (ofBytes s my)) (entry t) any p room) → P (lookedUp any q s t mx my p room)
+        → P (sought q (pairString s mx my) (entry t) any p room) → P (lookedUp any q s t mx my p room)
     unfolding lookedUp
     looked-up-case any q s t mx my p room h =
-        let o = sought q (nativeString s (ofBytes s mx) (ofBytes s my)) (entry t) any p room in
+        let o = sought q (pairString s mx my) (entry t) any p room in
         passed-case (given q s t mx my) (cond (isString q p) (wherePassed (allowed any q p) o) (refusing StringRange))
         (by (isString q p) (wherePassed (allowed any q p) o) (refusing StringRange) (λ i. passed-case (allowed any q p) o h) (λ i. no StringRange))

@@ -16,8 +16,7 @@ use Rattle.pauli_string.specs.Strings.{blank, hasPivot, letterAt}
 use Rattle.pauli_string.proofs.Pivot.{rotate-string, rotate-nonzero, blank-pivot, blank-le}
 use Rattle.pauli_string.proofs.Places.{set-letter-same}
 use Rattle.pauli_string.proofs.Range.{is-string}
-use Rattle.measurement.specs.Matrices.{ofBytes}
-use Rattle.measurement.specs.Measures.{nativeString}
+use Rattle.measurement.specs.Measures.{pairString}
 use Rattle.shortest.specs.Graphs.{Has}
 use Rattle.table.specs.Bytes.{entry}
 use Rattle.table.specs.Entries.{depth, leads, named}
@@ -105,7 +104,7 @@ module _ (q p : ℕ) where
 
   -- a lookup that may be asked is decided by the table
   pub ask-sought : (any : Bool) (s : ℕ) (t mx my : List ℕ) (room : ℕ) → Askable any q p → given q s t mx my ≡ Done
-      → lookedUp any q s t mx my p room ≡ sought q (nativeString s (ofBytes s mx) (ofBytes s my)) (entry t) any p room
+      → lookedUp any q s t mx my p room ≡ sought q (pairString s mx my) (entry t) any p room
   ask-sought any s t mx my room a g = is-sought any q s t mx my p room g (is-string q p (ask-string any a)) (ask-allowed any a)
 
   module _ (positive : 0 < q) (e : ℕ → ℕ) where

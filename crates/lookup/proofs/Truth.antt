@@ -11,8 +11,7 @@ use Rattle.bicycle_common.specs.Ranges.{listFrom}
 use Rattle.bicycle_common.proofs.Ranges.{length-from}
 use Rattle.pauli_string.specs.Strings.{hasPivot}
 use Rattle.pauli_string.proofs.Pivot.{rotate-rotate}
-use Rattle.measurement.specs.Matrices.{ofBytes}
-use Rattle.measurement.specs.Measures.{nativeString}
+use Rattle.measurement.specs.Measures.{pairString}
 use Rattle.table.specs.Bytes.{entry}
 use Rattle.table.specs.Entries.{depth, KeptFor, Rotation, leads, named}
 use Rattle.table.specs.Plans.{applied, All}
@@ -77,8 +76,8 @@ module _ (q : ℕ) (f e : ℕ → ℕ) (p : ℕ) where
 
 -- what a lookup answers, of whichever string it is, on any table
 pub looked-up-true : (any : Bool) (q s : ℕ) (t mx my : List ℕ) (p room : ℕ)
-    → Truly q (nativeString s (ofBytes s mx) (ofBytes s my)) (winner any q (entry t) p) (lookedUp any q s t mx my p room)
+    → Truly q (pairString s mx my) (winner any q (entry t) p) (lookedUp any q s t mx my p room)
 looked-up-true any q s t mx my p room =
-    let f = nativeString s (ofBytes s mx) (ofBytes s my) in
+    let f = pairString s mx my in
     let w = winner any q (entry t) p in
     looked-up-case (Truly q f w) (λ r. tt) any q s t mx my p room (sought-case (Truly q f w) (λ r. tt) q f (entry t) any p room (λ g l. implemented q f (entry t) w g))

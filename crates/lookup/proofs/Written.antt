@@ -9,8 +9,7 @@ use lib.ListN.{length, take, drop}
 use lib.Seq.{sets-eq, take-at}
 use Rattle.bicycle_common.specs.declared.Refusal.{Refusal}
 use Rattle.bicycle_common.proofs.Ranges.{length-from}
-use Rattle.measurement.specs.Matrices.{ofBytes}
-use Rattle.measurement.specs.Measures.{nativeString}
+use Rattle.measurement.specs.Measures.{pairString}
 use Rattle.table.specs.Bytes.{entry}
 use Rattle.table.specs.Entries.{depth}
 use Rattle.lookup.specs.declared.LookupAnswer.{LookupAnswer}
@@ -30,7 +29,7 @@ Counted room o = Counts room (o .answer) (o .written)
 
 pub counted : (any : Bool) (q s : ℕ) (t mx my : List ℕ) (p room : ℕ) → Counted room (lookedUp any q s t mx my p room)
 counted any q s t mx my p room =
-    let f = nativeString s (ofBytes s mx) (ofBytes s my) in
+    let f = pairString s mx my in
     let w = winner any q (entry t) p in
     let l = length-from (rotationAt q f (entry t) w) 0 (depth (entry t w)) in
     looked-up-case (Counted room) (λ r. refl) any q s t mx my p room

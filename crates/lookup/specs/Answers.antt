@@ -12,8 +12,7 @@ use Rattle.bicycle_common.specs.declared.Outcome.{Outcome}
 use Rattle.bicycle_common.specs.declared.Outcome.the-variants.{Done, Refused as NotDone}
 use Rattle.bicycle_common.specs.Refusals.{Told, answered, refused}
 use Rattle.pauli_string.specs.Strings.{isString, hasPivot}
-use Rattle.measurement.specs.Matrices.{ofBytes}
-use Rattle.measurement.specs.Measures.{nativeString}
+use Rattle.measurement.specs.Measures.{pairString}
 use Rattle.table.specs.Bytes.{entry}
 use Rattle.table.specs.Entries.{depth, named}
 use Rattle.table.specs.Answers.{given}
@@ -83,7 +82,7 @@ unfoldable pub lookedUp : Bool → ℕ → ℕ → List ℕ → List ℕ → Lis
 lookedUp any q s t mx my p room =
     wherePassed (given q s t mx my)
     (cond (isString q p)
-    (wherePassed (allowed any q p) (sought q (nativeString s (ofBytes s mx) (ofBytes s my)) (entry t) any p room))
+    (wherePassed (allowed any q p) (sought q (pairString s mx my) (entry t) any p room))
     (refusing StringRange))
 
 -- the exact lookup

@@ -21,8 +21,8 @@ ghost use lib.ListN.{length, set};
 ghost use lib.Seq.{sets};
 ghost use Rattle.pauli_string.specs.Strings.{qubits};
 ghost use Rattle.native_measurement.specs.Natives.{natives};
-ghost use Rattle.measurement.specs.Matrices.{side, ofBytes, isBytes};
-ghost use Rattle.measurement.specs.Measures.{nativeString};
+ghost use Rattle.measurement.specs.Matrices.{side, isBytes};
+ghost use Rattle.measurement.specs.Measures.{pairString};
 ghost use Rattle.natives.specs.Cells.{shown, Spread};
 ghost use Rattle.table.specs.Bytes.{tableLength, entry};
 ghost use Rattle.table.specs.Entries.{depth, field, named, leads, valid};
@@ -371,7 +371,7 @@ fn is_allowed(p: PauliString, any: bool) -> Outcome
 fn look_pair(table: &[u8], mx: &[u8], my: &[u8], p: u32, any: bool, out: &mut [u8]) -> LookupAnswer
     requires { ⌜ (length (now table) ≡ tableLength qubits) × (p < 4 ^ qubits) ⌝ }
     requires { ⌜ (isBytes side (now mx) ≡ true) × (isBytes side (now my) ≡ true) ⌝ }
-    ensures { λ r. ⌜ Leaves (sought qubits (nativeString side (ofBytes side (now (mx .entry))) (ofBytes side (now (my .entry)))) (entry (now (table .entry))) any p (length (now (out .entry)))) (now (out .entry)) r (now (out .exit)) ⌝ }
+    ensures { λ r. ⌜ Leaves (sought qubits (pairString side (now (mx .entry)) (now (my .entry))) (entry (now (table .entry))) any p (length (now (out .entry)))) (now (out .entry)) r (now (out .exit)) ⌝ }
 {
     if is_missing(table, p, any) {
         return LookupAnswer::Refused(Refusal::NoEntry);

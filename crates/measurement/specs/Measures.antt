@@ -1,4 +1,5 @@
 -- The string that a native measures on the code of a matrix pair, over the side s; the string has 2 * s letters. Assumes nothing.
+use mathlib.Core.List.{List}
 use Prim.Native.Nat.{ℕ, _+_, _*_, _^_}
 use Rattle.bicycle_common.specs.declared.Pauli.{Pauli}
 use Rattle.bicycle_common.specs.declared.TwoBases.{TwoBases}
@@ -8,7 +9,7 @@ use Rattle.bicycle_common.specs.Letters.{xOf, zOf, letter}
 use Rattle.bicycle_common.specs.Automorphisms.{component, inverse}
 use Rattle.native_measurement.specs.declared.NativeMeasurement.{NativeMeasurement}
 use Rattle.native_measurement.specs.Natives.{nativeOf}
-use Rattle.measurement.specs.Matrices.{Matrix, mul, pow}
+use Rattle.measurement.specs.Matrices.{Matrix, ofBytes, mul, pow}
 
 -- A(x,y) = Mx^x · My^y modulo 2
 unfoldable pub action : ℕ → Matrix → Matrix → AutomorphismData → Matrix
@@ -43,3 +44,7 @@ spread s mx my m p i = letter (xOf p * action s mx my (inverse (m .automorphism)
 
 unfoldable pub nativeString : ℕ → Matrix → Matrix → ℕ → ℕ
 nativeString s mx my n = measured s mx my (nativeOf n)
+
+-- of a pair of matrices as bytes
+abbrev pub pairString : ℕ → List ℕ → List ℕ → ℕ → ℕ
+pairString s mx my = nativeString s (ofBytes s mx) (ofBytes s my)

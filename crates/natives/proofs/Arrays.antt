@@ -12,7 +12,7 @@ use Rattle.bicycle_common.proofs.Ranges.{length-from, listed-at}
 use Rattle.pauli_string.specs.Strings.{qubits}
 use Rattle.native_measurement.specs.Natives.{natives}
 use Rattle.measurement.specs.Matrices.{side, Matrix, ofBytes}
-use Rattle.measurement.specs.Measures.{nativeString}
+use Rattle.measurement.specs.Measures.{nativeString, pairString}
 use Rattle.measurement.proofs.Strings.{native-lt}
 use Rattle.natives.specs.declared.Natives.{Natives}
 use Rattle.natives.specs.Arrays.{at, strings, Held, flags, nativesOf}
@@ -46,7 +46,7 @@ module _ (mx my : List ℕ) (r : Natives) (e : r ≡ nativesOf mx my) where
   same : r .strings ≡ strings (ofBytes side mx) (ofBytes side my)
   same = ap (λ (s : Natives). s .strings) e
 
-  pub natives-at : (n : ℕ) → n < natives → at (r .strings) n ≡ nativeString side (ofBytes side mx) (ofBytes side my) n
+  pub natives-at : (n : ℕ) → n < natives → at (r .strings) n ≡ pairString side mx my n
   natives-at = strings-at (ofBytes side mx) (ofBytes side my) (r .strings) same
 
   pub natives-held : Held qubits (r .strings)
@@ -54,4 +54,4 @@ module _ (mx my : List ℕ) (r : Natives) (e : r ≡ nativesOf mx my) where
 
   pub natives-flagged : r .kept ≡ flags (at (r .strings))
   natives-flagged =
-      ap (λ (s : Natives). s .kept) e ∙ flags-same (nativeString side (ofBytes side mx) (ofBytes side my)) (at (r .strings)) (λ n h. sym (natives-at n h))
+      ap (λ (s : Natives). s .kept) e ∙ flags-same (pairString side mx my) (at (r .strings)) (λ n h. sym (natives-at n h))

@@ -12,7 +12,7 @@ use borrow.Author.Tests.{lt-ltb, eq-eqb, ne-eqb, ltb-true, eqb-true, eqb-false}
 use Rattle.bicycle_common.proofs.Ranges.{all-true, all-false, all-same, length-from, listed-at, listed-all}
 use Rattle.native_measurement.specs.Natives.{natives}
 use Rattle.measurement.specs.Matrices.{side, ofBytes}
-use Rattle.measurement.specs.Measures.{nativeString}
+use Rattle.measurement.specs.Measures.{pairString}
 use Rattle.natives.specs.Kept.{beats, keptBy, kept, Kept, keptBelow, keptFor, Keeper}
 use Rattle.natives.specs.Arrays.{at, strings, flags, nativesOf}
 
@@ -124,6 +124,6 @@ kept-below-none f x = refl
 pub natives-of : (x y hx hy s : List ℕ) (k : List Bool) → hx ≡ x → hy ≡ y → s ≡ strings (ofBytes side x) (ofBytes side y) → k ≡ flags (at s)
     → record { pair = record { mx = hx; my = hy }; strings = s; kept = k } ≡ nativesOf x y
 natives-of x y hx hy s k ex ey es ek =
-    let f = nativeString side (ofBytes side x) (ofBytes side y) in
+    let f = pairString side x y in
     let e : k ≡ flags f = ek ∙ flags-same (at s) f (λ m h. ap (λ (l : List ℕ). at l m) es ∙ listed-at f 0 natives m h) in
     rw (ex, ey, es, e)

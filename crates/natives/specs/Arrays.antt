@@ -7,7 +7,7 @@ use lib.ListN.{getD, length}
 use Rattle.bicycle_common.specs.Ranges.{listed}
 use Rattle.native_measurement.specs.Natives.{natives}
 use Rattle.measurement.specs.Matrices.{side, Matrix, ofBytes}
-use Rattle.measurement.specs.Measures.{nativeString}
+use Rattle.measurement.specs.Measures.{nativeString, pairString}
 use Rattle.natives.specs.declared.Natives.{Natives}
 use Rattle.natives.specs.Kept.{kept}
 
@@ -33,5 +33,5 @@ abbrev pub nativesOf : List ℕ → List ℕ → Natives
 nativesOf mx my = record {
   pair = record { mx = mx; my = my };
   strings = strings (ofBytes side mx) (ofBytes side my);
-  kept = flags (nativeString side (ofBytes side mx) (ofBytes side my));
+  kept = flags (pairString side mx my);
 }

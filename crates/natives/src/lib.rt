@@ -19,7 +19,7 @@ ghost use Rattle.bicycle_common.specs.Letters.{flag};
 ghost use Rattle.pauli_string.specs.Strings.{qubits};
 ghost use Rattle.native_measurement.specs.Natives.{natives};
 ghost use Rattle.measurement.specs.Matrices.{side, ofRows, ofBytes, isBytes, Binary, Same};
-ghost use Rattle.measurement.specs.Measures.{nativeString};
+ghost use Rattle.measurement.specs.Measures.{pairString};
 ghost use Rattle.natives.specs.Kept.{kept, keptFor};
 ghost use Rattle.natives.specs.Arrays.{at, strings, flags, nativesOf};
 ghost use Rattle.natives.specs.Packed.{iterated, Sums, SmallSums, stepped, walked, ofRowWords, ofColumnWords, Words, wordAt, Lines, Cells, SmallCells, wordString};
@@ -255,7 +255,7 @@ fn marked(cells: [u32; 36]) -> [u32; 36]
 // The cells of the pair, which hold the strings of all natives.
 pub fn cells_unchecked(mx: &[u8], my: &[u8]) -> [u32; 36]
     requires { ⌜ (isBytes side (now mx) ≡ true) × (isBytes side (now my) ≡ true) ⌝ }
-    ensures { λ r. ⌜ Spread r × ((n : ℕ) → n < natives → shown r n ≡ nativeString side (ofBytes side (now (mx .entry))) (ofBytes side (now (my .entry))) n) ⌝ }
+    ensures { λ r. ⌜ Spread r × ((n : ℕ) → n < natives → shown r n ≡ pairString side (now (mx .entry)) (now (my .entry)) n) ⌝ }
 {
     let rx = rows_of(mx);
     let ry = rows_of(my);

@@ -14,7 +14,7 @@ use Rattle.bicycle_common.specs.Refusals.{refused}
 use Rattle.pauli_string.specs.Strings.{qubits}
 use Rattle.pauli_string.proofs.Pivot.{rotate-string}
 use Rattle.measurement.specs.Matrices.{side, ofBytes, isBytes}
-use Rattle.measurement.specs.Measures.{nativeString}
+use Rattle.measurement.specs.Measures.{pairString}
 use Rattle.measurement.proofs.Strings.{native-lt}
 use Rattle.shortest.specs.Graphs.{Has}
 use Rattle.table.specs.Bytes.{entry}
@@ -33,10 +33,6 @@ use Rattle.table_check.specs.declared.CheckAnswer.{CheckAnswer}
 use Rattle.table_check.specs.declared.CheckAnswer.the-variants.{Accepted, Refused}
 use Rattle.table_check.specs.Answers.{Checked, toldCheck}
 use Rattle.table_check.proofs.Answers.{checked-one}
-
--- the string of native n of the pair
-abbrev pub pairString : List ℕ → List ℕ → ℕ → ℕ
-pairString mx my = nativeString side (ofBytes side mx) (ofBytes side my)
 
 -- t is what a build for the pair leaves
 pub record BuiltFor (mx my t : List ℕ) : Type 0 where
@@ -58,15 +54,15 @@ BuiltOrAccepted mx my t = BuiltFor mx my t ⊎ AcceptedFor mx my t
 -- a table of the pair, of which every index meets its rule
 pub record Ruled (mx my t : List ℕ) : Type 0 where
   pub is-given : given qubits side t mx my ≡ Done
-  pub ruled : (p : ℕ) → p < 4 ^ qubits → Rule qubits (pairString mx my) (entry t) p
+  pub ruled : (p : ℕ) → p < 4 ^ qubits → Rule qubits (pairString side mx my) (entry t) p
 
-pub small : (mx my : List ℕ) (n : ℕ) → pairString mx my n < 4 ^ qubits
+pub small : (mx my : List ℕ) (n : ℕ) → pairString side mx my n < 4 ^ qubits
 small mx my = native-lt side (lit< tt) (ofBytes side mx) (ofBytes side my)
 
 built-ruled : (mx my t : List ℕ) → BuiltFor mx my t → Ruled mx my t
 built-ruled mx my t b =
     let h = answered-built qubits side (b .table) (b .queue) mx my (b .told) (b .answers) in
-    let f = pairString mx my in
+    let f = pairString side mx my in
     let z : built qubits f .table ≡ t = sym (ap (λ (o : After). o .table) (h .2)) ∙ b .leaves in
     record {
       is-given = is-given qubits side t mx my (ap (λ (l : List ℕ). length l) (sym z) ∙ Meets.built-good qubits twelve f (small mx my) .table-long) (h .0) (h .1);
@@ -83,7 +79,7 @@ pub every-pair-is-built : (t u mx my : List ℕ) → isTable qubits t ≡ true �
     → BuiltFor mx my (build qubits side t u mx my .table)
 every-pair-is-built t u mx my a b x y =
     let z = sym (all-right qubits side t u mx my a b x y) in
-    let d = done qubits (built qubits (pairString mx my)) in
+    let d = done qubits (built qubits (pairString side mx my)) in
     record {
       table = t;
       queue = u;

@@ -13,6 +13,7 @@ use Rattle.bicycle_common.specs.declared.Pauli.the-variants.{I, X, Z, Y}
 use Rattle.bicycle_common.proofs.Ranges.{length-from}
 use Rattle.pauli_string.specs.Strings.{qubits, hasPivot}
 use Rattle.measurement.specs.Matrices.{side}
+use Rattle.measurement.specs.Measures.{pairString}
 use Rattle.shortest.specs.Graphs.{Has}
 use Rattle.table.specs.Bytes.{entry}
 use Rattle.table.specs.Entries.{depth, named}
@@ -27,7 +28,7 @@ use Rattle.lookup.specs.Truth.{Implements, Truly}
 use Rattle.lookup.proofs.Walks.{best-least-first, best-least-second, best-least-third}
 use Rattle.lookup.proofs.Truth.{looked-up-true}
 use Rattle.lookup.proofs.Ruled.{candidate-nonzero, Askable, ask-sought, winner-nonzero, rule-planned}
-use Rattle.promises.specs.Checks.{pairString, BuiltOrAccepted, Ruled, small, ruled-table}
+use Rattle.promises.specs.Checks.{BuiltOrAccepted, Ruled, small, ruled-table}
 
 -- The answer r, and the buffer that was `before` and is `after` now, hold a shortest plan for p: a kept native and kept natives with pivot
 -- support which, pivots blanked, applied in order to the base, give p; and no shorter sequence of natives with pivot support, kept or not,
@@ -37,8 +38,8 @@ pub record ShortestPlan (mx my : List ℕ) (p : ℕ) (before : List ℕ) (r : Lo
   pub rotations : List ℕ
   pub answer : r ≡ Is plan
   pub buffer : after ≡ sets before 0 (twoBytes rotations)
-  pub implements : Implements qubits (pairString mx my) plan rotations p
-  pub no-shorter : (b : ℕ) (ns : List ℕ) → Gives qubits (pairString mx my) b ns p → length rotations ≤ length ns
+  pub implements : Implements qubits (pairString side mx my) plan rotations p
+  pub no-shorter : (b : ℕ) (ns : List ℕ) → Gives qubits (pairString side mx my) b ns p → length rotations ≤ length ns
 
 -- what demand 3 asks of a table and a nonzero string
 pub record Demand3 (mx my t : List ℕ) (p : ℕ) : Type 0 where
@@ -46,7 +47,7 @@ pub record Demand3 (mx my t : List ℕ) (p : ℕ) : Type 0 where
   pub entry-is-planned : Has (entry t) p → (before : List ℕ) → 2 * depth (entry t p) ≤ length before → (r : LookupAnswer) (after : List ℕ)
       → Leaves (exact qubits side t mx my p (length before)) before r after → ShortestPlan mx my p before r after
   -- without an entry: no sequence gives it
-  pub without-entry : entry t p ≡ 0 → (b : ℕ) (ns : List ℕ) → Gives qubits (pairString mx my) b ns p → ⊥
+  pub without-entry : entry t p ≡ 0 → (b : ℕ) (ns : List ℕ) → Gives qubits (pairString side mx my) b ns p → ⊥
 
 -- ---- the same without the pivot
 
@@ -57,7 +58,7 @@ chosen t p = winner true qubits (entry t) p
 -- a shortest plan for the chosen candidate, and no sequence for p with any letter on the pivot is shorter
 pub record BestPlan (mx my t : List ℕ) (p : ℕ) (before : List ℕ) (r : LookupAnswer) (after : List ℕ) : Type 0 where
   pub shortest : ShortestPlan mx my (chosen t p) before r after
-  pub no-letter-shorter : (l : Pauli) → (l ≡ I → ⊥) → (b : ℕ) (ns : List ℕ) → Gives qubits (pairString mx my) b ns (candidate qubits p l)
+  pub no-letter-shorter : (l : Pauli) → (l ≡ I → ⊥) → (b : ℕ) (ns : List ℕ) → Gives qubits (pairString side mx my) b ns (candidate qubits p l)
       → length (shortest .rotations) ≤ length ns
 
 pub record PivotFree3 (mx my t : List ℕ) (p : ℕ) : Type 0 where
@@ -65,16 +66,16 @@ pub record PivotFree3 (mx my t : List ℕ) (p : ℕ) : Type 0 where
   pub entry-is-planned : Has (entry t) (chosen t p) → (before : List ℕ) → 2 * depth (entry t (chosen t p)) ≤ length before → (r : LookupAnswer)
       (after : List ℕ) → Leaves (pivotFree qubits side t mx my p (length before)) before r after → BestPlan mx my t p before r after
   -- if it has none, no sequence gives p with any letter on the pivot
-  pub without-entry : entry t (chosen t p) ≡ 0 → (l : Pauli) → (l ≡ I → ⊥) → (b : ℕ) (ns : List ℕ) → Gives qubits (pairString mx my) b ns (candidate qubits p l) → ⊥
+  pub without-entry : entry t (chosen t p) ≡ 0 → (l : Pauli) → (l ≡ I → ⊥) → (b : ℕ) (ns : List ℕ) → Gives qubits (pairString side mx my) b ns (candidate qubits p l) → ⊥
 
 -- ---- the theorems
 
 -- a lookup that answers the plan of the walk from p, truly, answers a shortest plan where no sequence is shorter than the depth of p
 abbrev planned-shortest : (mx my t : List ℕ) (p : ℕ) (before : List ℕ) (r : LookupAnswer) (after : List ℕ) (o : Lookup) → Leaves o before r after
-    → o ≡ planned qubits (pairString mx my) (entry t) p → Truly qubits (pairString mx my) p o
-    → ((b : ℕ) (ns : List ℕ) → Gives qubits (pairString mx my) b ns p → depth (entry t p) ≤ length ns) → ShortestPlan mx my p before r after
+    → o ≡ planned qubits (pairString side mx my) (entry t) p → Truly qubits (pairString side mx my) p o
+    → ((b : ℕ) (ns : List ℕ) → Gives qubits (pairString side mx my) b ns p → depth (entry t p) ≤ length ns) → ShortestPlan mx my p before r after
 planned-shortest mx my t p before r after o w z true-plan least =
-    let f = pairString mx my in
+    let f = pairString side mx my in
     let e = entry t in
     let m : MeasurementImpl = implBy (bottom qubits f e p) (named (e (bottom qubits f e p))) (depth (e p)) p in
     record {
@@ -88,7 +89,7 @@ planned-shortest mx my t p before r after o w z true-plan least =
 
 module _ (mx my t : List ℕ) (ok : BuiltOrAccepted mx my t) where
   abbrev f : ℕ → ℕ
-  f = pairString mx my
+  f = pairString side mx my
 
   ready : Ruled mx my t
   ready = ruled-table mx my t ok

@@ -11,8 +11,8 @@ use Rattle.bicycle_common.specs.Automorphisms.{ofPair, inverse, toldPair}
 use Rattle.pauli_string.specs.Strings.{qubits, bit, letterAt, clashes, commute, conj, pivotBits, blank, rotationOf}
 use Rattle.pauli_string.specs.Answers.{commutesWith, conjugateWith, zeroPivot, rotation, toldString, toldBool}
 use Rattle.native_measurement.specs.Natives.{nativeOf}
-use Rattle.measurement.specs.Matrices.{side, ofBytes, one, mul, pow, isBinary}
-use Rattle.measurement.specs.Measures.{action, packed, placed, measured, nativeString}
+use Rattle.measurement.specs.Matrices.{side, one, mul, pow, isBinary}
+use Rattle.measurement.specs.Measures.{action, packed, placed, measured, nativeString, pairString}
 use Rattle.measurement.specs.Codes.{digitsOf}
 use Rattle.measurement.specs.Answers.{measuresBytes}
 use Rattle.natives.specs.Kept.{keptBy, kept}
@@ -42,7 +42,7 @@ asked (blanked? p) = toldString (zeroPivot qubits p)
 asked (inverse? x y) = toldPair (inverse (ofPair x y))
 asked (native? mx my n) = toldString (measuresBytes side (digitsOf mx) (digitsOf my) n)
 asked (kept? mx my n) =
-    let f = nativeString side (ofBytes side (digitsOf mx)) (ofBytes side (digitsOf my)) in
+    let f = pairString side (digitsOf mx) (digitsOf my) in
     answered (f n ∷ flag (kept f n) ∷ [])
 
 -- the matrices of the worked examples, by rows

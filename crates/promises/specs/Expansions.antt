@@ -19,8 +19,8 @@ use Rattle.native_measurement.specs.declared.ImplementationAnswer.{Implementati
 use Rattle.native_measurement.specs.declared.ImplementationAnswer.the-variants.{Is as Three}
 use Rattle.native_measurement.specs.Natives.{natives, nativeOf}
 use Rattle.native_measurement.specs.Answers.{implementationAt, toldImplementation}
-use Rattle.measurement.specs.Matrices.{side, isBytes, ofBytes}
-use Rattle.measurement.specs.Measures.{nativeString}
+use Rattle.measurement.specs.Matrices.{side, isBytes}
+use Rattle.measurement.specs.Measures.{pairString}
 use Rattle.measurement.specs.Answers.{measuresBytes}
 use Rattle.compile.specs.declared.RotationAnswer.{RotationAnswer}
 use Rattle.compile.specs.declared.RotationAnswer.the-variants.{Is as Five, Refused as NoRotation}
@@ -72,7 +72,7 @@ with-letter n Y e = record { before = X; after = Z; letters = record { first = r
 module _ (mx my : List ℕ) (n : ℕ) where
   -- the string of the native, and what its rotation expands to
   abbrev string : ℕ
-  string = nativeString side (ofBytes side mx) (ofBytes side my) n
+  string = pairString side mx my n
 
   abbrev rotation : RotationAnswer
   rotation = rotationInstructions qubits side mx my n

@@ -16,6 +16,7 @@ use Rattle.bicycle_common.specs.Refusals.{Told, refused}
 use Rattle.pauli_string.specs.Strings.{qubits, bit, letterAt, setBit, setLetter, hasPivot}
 use Rattle.pauli_string.proofs.Range.{is-string, no-string}
 use Rattle.measurement.specs.Matrices.{side, ofBytes, isBytes}
+use Rattle.measurement.specs.Measures.{pairString}
 use Rattle.measurement.proofs.Strings.{native-one}
 use Rattle.natives.specs.Kept.{keptFor}
 use Rattle.shortest.specs.Graphs.{Has}
@@ -33,7 +34,7 @@ use Rattle.lookup.proofs.Walks.{better-native}
 use Rattle.lookup.proofs.Answers.{found-short, found-fits, sought-none, sought-bad, sought-found, not-given, not-string, not-allowed, exact-not, free-not}
 use Rattle.lookup.proofs.Truth.{looked-up-true}
 use Rattle.lookup.proofs.Ruled.{Askable, ask-sought, rule-judged, rule-planned, planned-native}
-use Rattle.promises.specs.Checks.{pairString, BuiltOrAccepted, Ruled, small, ruled-table}
+use Rattle.promises.specs.Checks.{BuiltOrAccepted, Ruled, small, ruled-table}
 use Rattle.promises.specs.Demand3.{chosen}
 
 -- ---- on any table
@@ -41,14 +42,14 @@ use Rattle.promises.specs.Demand3.{chosen}
 -- m, with natives in front of the buffer, is a true plan for p: kept natives which, pivots blanked, applied in order to the base, give p
 pub record TruePlan (mx my : List ℕ) (p : ℕ) (before : List ℕ) (m : MeasurementImpl) (after : List ℕ) : Type 0 where
   pub rotations : List ℕ
-  pub implements : Implements qubits (pairString mx my) m rotations p
+  pub implements : Implements qubits (pairString side mx my) m rotations p
   pub buffer : after ≡ sets before 0 (twoBytes rotations)
 
 module _ (mx my t : List ℕ) (p : ℕ) (before : List ℕ) (m : MeasurementImpl) (after : List ℕ) where
-  true-plan : (x : ℕ) (o : Lookup) → Truly qubits (pairString mx my) x o → Leaves o before (Is m) after → TruePlan mx my x before m after
+  true-plan : (x : ℕ) (o : Lookup) → Truly qubits (pairString side mx my) x o → Leaves o before (Is m) after → TruePlan mx my x before m after
   true-plan x o h w = record {
     rotations = o .written;
-    implements = subst (AnswersTruly qubits (pairString mx my) x (o .written)) (sym (w .answer)) h;
+    implements = subst (AnswersTruly qubits (pairString side mx my) x (o .written)) (sym (w .answer)) h;
     buffer = w .buffer;
   }
 
@@ -71,7 +72,7 @@ numbered n z other e = other (sym (ap (λ (x : Lookup). toldLookup (x .answer) .
 
 module _ (mx my t : List ℕ) (ok : BuiltOrAccepted mx my t) where
   abbrev f : ℕ → ℕ
-  f = pairString mx my
+  f = pairString side mx my
 
   ready : Ruled mx my t
   ready = ruled-table mx my t ok
@@ -145,7 +146,7 @@ module _ (mx my t : List ℕ) (ok : BuiltOrAccepted mx my t) where
 
 module _ (mx my t : List ℕ) (p room : ℕ) where
   abbrev strings : ℕ → ℕ
-  strings = pairString mx my
+  strings = pairString side mx my
 
   -- what a caller is told by the exact lookup, and by the pivot-free one
   abbrev exactly : Told

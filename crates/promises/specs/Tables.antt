@@ -12,8 +12,8 @@ use Rattle.shortest.specs.Graphs.{Has}
 use Rattle.shortest.proofs.Shortest.{agree}
 use Rattle.pauli_string.specs.Strings.{qubits}
 use Rattle.native_measurement.specs.Natives.{natives}
-use Rattle.measurement.specs.Matrices.{side, Matrix, ofBytes, isBytes}
-use Rattle.measurement.specs.Measures.{nativeString}
+use Rattle.measurement.specs.Matrices.{side, Matrix, isBytes}
+use Rattle.measurement.specs.Measures.{nativeString, pairString}
 use Rattle.measurement.proofs.Strings.{native-lt}
 use Rattle.natives.specs.Kept.{keptFor}
 use Rattle.table.specs.Bytes.{entry}
@@ -135,5 +135,5 @@ module _ (t u mx my : List ℕ) where
 
   -- and otherwise none
   pub else-built : isTable qubits t ≡ true → isTable qubits u ≡ true → isBytes side mx ≡ true → isBytes side my ≡ true
-      → build qubits side t u mx my ≡ done qubits (built qubits (nativeString side (ofBytes side mx) (ofBytes side my)))
+      → build qubits side t u mx my ≡ done qubits (built qubits (pairString side mx my))
   else-built e d x y = sym (all-right qubits side t u mx my e d x y)

@@ -12,8 +12,8 @@ use Rattle.pauli_string.specs.Strings.{qubits, hasPivot}
 use Rattle.native_measurement.specs.declared.NativeNumber.{NativeNumber}
 use Rattle.native_measurement.specs.Natives.{natives}
 use Rattle.measurement.specs.declared.CodeMeasurement.{CodeMeasurement}
-use Rattle.measurement.specs.Matrices.{side, ofBytes, isBytes}
-use Rattle.measurement.specs.Measures.{nativeString}
+use Rattle.measurement.specs.Matrices.{side, isBytes}
+use Rattle.measurement.specs.Measures.{pairString}
 use Rattle.table.specs.Plans.{applied}
 use Rattle.reader.specs.Lines.{lines, lineAt, isLine, valueIn}
 
@@ -27,7 +27,7 @@ pub record Plan : Type 0 where
 
 -- the strings of the natives of a pair
 abbrev pub stringsOf : CodeMeasurement → ℕ → ℕ
-stringsOf c = nativeString side (ofBytes side (c .mx)) (ofBytes side (c .my))
+stringsOf c = pairString side (c .mx) (c .my)
 
 -- the number of each native
 abbrev pub numbers : List NativeNumber → List ℕ

@@ -8,8 +8,7 @@ use native.Mathlib.Decide.{ℕ-discrete, decLt}
 use Rattle.bicycle_common.specs.declared.Refusal.{Refusal}
 use Rattle.bicycle_common.specs.declared.Outcome.{Outcome}
 use Rattle.bicycle_common.specs.declared.Outcome.the-variants.{Done, Refused as NotDone}
-use Rattle.measurement.specs.Matrices.{ofBytes}
-use Rattle.measurement.specs.Measures.{nativeString}
+use Rattle.measurement.specs.Measures.{pairString}
 use Rattle.table.specs.Answers.{given}
 use Rattle.table.specs.Bytes.{entry}
 use Rattle.table_check.specs.declared.CheckAnswer.{CheckAnswer}
@@ -28,7 +27,7 @@ refused-one k l e = ap reason e
 module _ (q s : ℕ) (t mx my : List ℕ) where
   -- ---- where the check stops
 
-  module _ (r : ℕ) (done : given q s t mx my ≡ Done) (h : Stops q (nativeString s (ofBytes s mx) (ofBytes s my)) (entry t) r) where
+  module _ (r : ℕ) (done : given q s t mx my ≡ Done) (h : Stops q (pairString s mx my) (entry t) r) where
     pub stops-fails : r < 4 ^ q → Fails q s t mx my r
     stops-fails l = record { done = done; index = l; breaks = h .breaks l; lowest = h .meets }
 

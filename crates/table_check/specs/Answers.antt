@@ -5,8 +5,7 @@ use mathlib.Core.Path.{_≡_}
 use Prim.Native.Nat.{ℕ, _^_, _<_}
 use Rattle.bicycle_common.specs.declared.Outcome.the-variants.{Done, Refused as NotDone}
 use Rattle.bicycle_common.specs.Refusals.{Told, answered, refused}
-use Rattle.measurement.specs.Matrices.{ofBytes}
-use Rattle.measurement.specs.Measures.{nativeString}
+use Rattle.measurement.specs.Measures.{pairString}
 use Rattle.table.specs.Answers.{given}
 use Rattle.table.specs.Bytes.{entry}
 use Rattle.table.specs.Rules.{Rule}
@@ -21,7 +20,7 @@ toldCheck (Refused r) = refused 2 r
 
 -- of a table t and matrices of side s, all as bytes: index p meets its rule
 abbrev pub Meets : ℕ → ℕ → List ℕ → List ℕ → List ℕ → ℕ → Type 0
-Meets q s t mx my p = Rule q (nativeString s (ofBytes s mx) (ofBytes s my)) (entry t) p
+Meets q s t mx my p = Rule q (pairString s mx my) (entry t) p
 
 -- every index does
 pub record Passes (q s : ℕ) (t mx my : List ℕ) : Type 0 where

@@ -19,8 +19,8 @@ ghost use Prim.Native.Nat.{ℕ, _+_, _^_, _<_, _≤_};
 ghost use lib.ListN.{length};
 ghost use Rattle.pauli_string.specs.Strings.{qubits};
 ghost use Rattle.native_measurement.specs.Natives.{natives};
-ghost use Rattle.measurement.specs.Matrices.{side, ofBytes, isBytes};
-ghost use Rattle.measurement.specs.Measures.{nativeString};
+ghost use Rattle.measurement.specs.Matrices.{side, isBytes};
+ghost use Rattle.measurement.specs.Measures.{pairString};
 ghost use Rattle.natives.specs.Arrays.{at};
 ghost use Rattle.table.specs.Bytes.{tableLength, entry};
 ghost use Rattle.table.specs.Entries.{Names};
@@ -409,7 +409,7 @@ fn lowest(table: &[u8], strings: &[u32], kept: &[bool; 540]) -> u32
 fn check_pair(table: &[u8], mx: &[u8], my: &[u8]) -> u32
     requires { ⌜ length (now table) ≡ tableLength qubits ⌝ }
     requires { ⌜ (isBytes side (now mx) ≡ true) × (isBytes side (now my) ≡ true) ⌝ }
-    ensures { λ r. ⌜ Stops qubits (nativeString side (ofBytes side (now (mx .entry))) (ofBytes side (now (my .entry)))) (entry (now (table .entry))) r ⌝ }
+    ensures { λ r. ⌜ Stops qubits (pairString side (now (mx .entry)) (now (my .entry))) (entry (now (table .entry))) r ⌝ }
 {
     let held = natives::natives_unchecked(mx, my);
     let strings = held.strings;

@@ -6,7 +6,7 @@ ghost use Prim.Native.Nat.{_<_};
 ghost use lib.ListN.{length};
 ghost use Rattle.native_measurement.specs.Natives.{natives};
 ghost use Rattle.measurement.specs.Matrices.{side, ofBytes, isBytes};
-ghost use Rattle.measurement.specs.Measures.{nativeString};
+ghost use Rattle.measurement.specs.Measures.{pairString};
 ghost use Rattle.natives.specs.Kept.{kept};
 ghost use Rattle.natives.specs.Arrays.{strings};
 
@@ -31,8 +31,8 @@ pub struct OneNative {
 #[no_mangle]
 pub extern "C" fn timing_natives_unchecked(mx: &[u8], my: &[u8], n: usize) -> OneNative
     requires { ⌜ (isBytes side (now mx) ≡ true) × (isBytes side (now my) ≡ true) × (n < natives) ⌝ }
-    ensures { λ r. ⌜ r .string ≡ nativeString side (ofBytes side (now (mx .entry))) (ofBytes side (now (my .entry))) n ⌝ }
-    ensures { λ r. ⌜ r .kept ≡ kept (nativeString side (ofBytes side (now (mx .entry))) (ofBytes side (now (my .entry)))) n ⌝ }
+    ensures { λ r. ⌜ r .string ≡ pairString side (now (mx .entry)) (now (my .entry)) n ⌝ }
+    ensures { λ r. ⌜ r .kept ≡ kept (pairString side (now (mx .entry)) (now (my .entry))) n ⌝ }
 {
     let all = natives::natives_unchecked(mx, my);
     let strings = all.strings;

@@ -5,8 +5,8 @@ use lib.ListN.{length}
 use Rattle.bicycle_common.specs.declared.Refusal.the-variants.{NoEntry}
 use Prim.Native.Nat.{ℕ}
 use Rattle.pauli_string.specs.Strings.{qubits}
-use Rattle.measurement.specs.Matrices.{side, ofBytes}
-use Rattle.measurement.specs.Measures.{nativeString}
+use Rattle.measurement.specs.Matrices.{side}
+use Rattle.measurement.specs.Measures.{pairString}
 use Rattle.natives.specs.Cells.{shown}
 use Rattle.table.specs.Bytes.{entry}
 use Rattle.lookup.specs.Answers.{Lookup, Leaves, sought}
@@ -17,7 +17,7 @@ use Rattle.lookup.proofs.look_pair.Tie as tie
 
 -- the string of each native
 abbrev f : tie.Start → ℕ → ℕ
-f s = nativeString side (ofBytes side (s .args .mx .now)) (ofBytes side (s .args .my .now))
+f s = pairString side (s .args .mx .now) (s .args .my .now)
 
 is-missing-requires : tie.Need-is-missing-requires
 is-missing-requires c κs = search needs

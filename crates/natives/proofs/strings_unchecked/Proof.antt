@@ -2,8 +2,7 @@
 use borrow.Author.Needs.{needs}
 use mathlib.Core.Path.{_∙_}
 use Rattle.bicycle_common.proofs.Ranges.{listed-all}
-use Rattle.measurement.specs.Matrices.{ofBytes}
-use Rattle.measurement.specs.Measures.{nativeString}
+use Rattle.measurement.specs.Measures.{pairString}
 use Rattle.natives.proofs.strings_unchecked.Statement.{statement}
 use Rattle.natives.proofs.strings_unchecked.Tie as tie
 
@@ -20,7 +19,7 @@ returns : tie.Need-returns
 returns c =
     let g = c .before .before .before .before .before .before .before .before .before .args in
     let u = c .before .before .blocks2 .ensures in
-    listed-all (nativeString 6 (ofBytes 6 (g .mx .now)) (ofBytes 6 (g .my .now))) 0 _ 540 (u .0) (λ n h. u .1 n h ∙ c .before .before .before .before .before .cells-unchecked .ensures .1 n h)
+    listed-all (pairString 6 (g .mx .now) (g .my .now)) 0 _ 540 (u .0) (λ n h. u .1 n h ∙ c .before .before .before .before .before .cells-unchecked .ensures .1 n h)
 
 pub strings-unchecked-spec : {M : Type 1} → statement M
 strings-unchecked-spec =

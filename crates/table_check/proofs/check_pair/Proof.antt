@@ -1,8 +1,8 @@
 -- `table_check::check_pair` meets its contract: the rule reads the strings of the natives alone, and these are held. Assumes nothing.
 use borrow.Author.Needs.{needs}
 use Rattle.pauli_string.specs.Strings.{qubits}
-use Rattle.measurement.specs.Matrices.{side, ofBytes}
-use Rattle.measurement.specs.Measures.{nativeString}
+use Rattle.measurement.specs.Matrices.{side}
+use Rattle.measurement.specs.Measures.{pairString}
 use Rattle.natives.specs.Arrays.{at}
 use Rattle.natives.proofs.Arrays.{natives-at, natives-held, natives-flagged}
 use Rattle.table.specs.Bytes.{entry}
@@ -33,7 +33,7 @@ returns c =
     let n = c .before .before .before .before .before in
     let a = n .before .before .before .before .args in
     let r = n .natives-unchecked in
-    stops-same qubits (at (r .result .strings)) (nativeString side (ofBytes side (a .mx .now)) (ofBytes side (a .my .now))) (natives-at (a .mx .now) (a .my .now) (r .result) (r .ensures)) (entry (a .table .now)) (c .lowest .result) (c .lowest .ensures)
+    stops-same qubits (at (r .result .strings)) (pairString side (a .mx .now) (a .my .now)) (natives-at (a .mx .now) (a .my .now) (r .result) (r .ensures)) (entry (a .table .now)) (c .lowest .result) (c .lowest .ensures)
 
 pub check-pair-spec : {M : Type 1} → statement M
 check-pair-spec =

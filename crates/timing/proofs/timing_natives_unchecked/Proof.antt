@@ -5,8 +5,8 @@ use lib.ListN.{getD}
 use borrow.Author.Needs.{needs}
 use Rattle.bicycle_common.proofs.Ranges.{listed-at}
 use Rattle.native_measurement.specs.Natives.{natives}
-use Rattle.measurement.specs.Matrices.{side, ofBytes}
-use Rattle.measurement.specs.Measures.{nativeString}
+use Rattle.measurement.specs.Matrices.{side}
+use Rattle.measurement.specs.Measures.{pairString}
 use Rattle.natives.specs.declared.Natives.{Natives}
 use Rattle.natives.specs.Kept.{kept}
 use Rattle.timing.proofs.timing_natives_unchecked.Statement.{statement}
@@ -29,7 +29,7 @@ returns c =
     let all = c .before .before .natives-unchecked .ensures in
     let s = c .before .before .before .before .before in
     let n = s .args .n in
-    let f = nativeString side (ofBytes side (s .args .mx .now)) (ofBytes side (s .args .my .now)) in
+    let f = pairString side (s .args .mx .now) (s .args .my .now) in
     (ap (λ (a : Natives). getD (a .strings) n 0) all ∙ listed-at f 0 natives n (s .pre .2), ap (λ (a : Natives). getD (a .kept) n false) all ∙ listed-at (kept f) false natives n (s .pre .2))
 
 pub timing-natives-unchecked-spec : {M : Type 1} → statement M
