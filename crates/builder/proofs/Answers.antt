@@ -6,8 +6,8 @@ use mathlib.Core.List.{List}
 use Prim.Native.Nat.{ℕ, _+_}
 use native.Mathlib.Omega.{arith}
 use Rattle.bicycle_common.specs.declared.Refusal.the-variants.{TableLength, QueueLength, Matrix}
-use Rattle.measurement.specs.Matrices.{ofBytes, isBytes}
-use Rattle.measurement.specs.Measures.{nativeString}
+use Rattle.measurement.specs.Matrices.{isBytes}
+use Rattle.measurement.specs.Measures.{pairString}
 use Rattle.table.specs.Answers.{isTable, entries, deepest}
 use Rattle.discovery.specs.Model.{State, state, built}
 use Rattle.discovery.specs.States.{Good}
@@ -31,7 +31,7 @@ module _ (q s : ℕ) (t u mx my : List ℕ) where
   no-second e d x y = rw (e, d, x, y)
 
   pub all-right : isTable q t ≡ true → isTable q u ≡ true → isBytes s mx ≡ true → isBytes s my ≡ true
-      → done q (built q (nativeString s (ofBytes s mx) (ofBytes s my))) ≡ build q s t u mx my
+      → done q (built q (pairString s mx my)) ≡ build q s t u mx my
   all-right e d x y = rw (e, d, x, y)
 
 -- a build that is not refused was given its buffers and a pair
@@ -44,9 +44,9 @@ by-tests true false c w t u d e = let n : _≡_ {A = ℕ} 0 1 = cc in absurd (om
 by-tests false b c w t u d e = let n : _≡_ {A = ℕ} 0 1 = cc in absurd (omega arith)
 
 pub answered-built : (q s : ℕ) (t u mx my : List ℕ) (d : Built) → build q s t u mx my .answer ≡ Is d
-    → (isBytes s mx ≡ true) × (isBytes s my ≡ true) × (build q s t u mx my ≡ done q (built q (nativeString s (ofBytes s mx) (ofBytes s my))))
+    → (isBytes s mx ≡ true) × (isBytes s my ≡ true) × (build q s t u mx my ≡ done q (built q (pairString s mx my)))
 answered-built q s t u mx my d e =
-    let h = by-tests (isTable q t) (isTable q u) (isBytes s mx && isBytes s my) (done q (built q (nativeString s (ofBytes s mx) (ofBytes s my)))) t u d e in
+    let h = by-tests (isTable q t) (isTable q u) (isBytes s mx && isBytes s my) (done q (built q (pairString s mx my))) t u d e in
     let m = and-eq-true-iff (isBytes s mx) (isBytes s my) .0 (h .2) in
     (m .0, m .1, sym (all-right q s t u mx my (h .0) (h .1) (m .0) (m .1)))
 

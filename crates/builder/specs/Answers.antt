@@ -5,8 +5,8 @@ use mathlib.Core.List.{List, [], _∷_}
 use Prim.Native.Nat.{ℕ}
 use Rattle.bicycle_common.specs.declared.Refusal.the-variants.{TableLength, QueueLength, Matrix}
 use Rattle.bicycle_common.specs.Refusals.{Told, answered, refused}
-use Rattle.measurement.specs.Matrices.{ofBytes, isBytes}
-use Rattle.measurement.specs.Measures.{nativeString}
+use Rattle.measurement.specs.Matrices.{isBytes}
+use Rattle.measurement.specs.Measures.{pairString}
 use Rattle.table.specs.Answers.{isTable, entries, deepest}
 use Rattle.discovery.specs.Model.{State, built}
 use Rattle.builder.specs.declared.Built.{Built}
@@ -40,7 +40,7 @@ build q s t u mx my =
     cond (isTable q t)
     (cond (isTable q u)
     (cond (isBytes s mx && isBytes s my)
-    (done q (built q (nativeString s (ofBytes s mx) (ofBytes s my))))
+    (done q (built q (pairString s mx my)))
     (after (Refused Matrix) t u))
     (after (Refused QueueLength) t u))
     (after (Refused TableLength) t u)

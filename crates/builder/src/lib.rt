@@ -12,8 +12,8 @@ ghost use mathlib.Core.Path.{_≡_};
 ghost use mathlib.Core.Bool.{true};
 ghost use lib.ListN.{length};
 ghost use Rattle.pauli_string.specs.Strings.{qubits};
-ghost use Rattle.measurement.specs.Matrices.{side, ofBytes, isBytes};
-ghost use Rattle.measurement.specs.Measures.{nativeString};
+ghost use Rattle.measurement.specs.Matrices.{side, isBytes};
+ghost use Rattle.measurement.specs.Measures.{pairString};
 ghost use Rattle.natives.specs.Arrays.{at, Held, flags};
 ghost use Rattle.table.specs.Bytes.{tableLength};
 ghost use Rattle.discovery.specs.Model.{built};
@@ -50,7 +50,7 @@ fn build_from(table: &mut [u8], queue: &mut [u8], strings: &[u32], kept: &[bool;
 fn build_pair(table: &mut [u8], queue: &mut [u8], mx: &[u8], my: &[u8]) -> Built
     requires { ⌜ (length (now table) ≡ tableLength qubits) × (length (now queue) ≡ tableLength qubits) ⌝ }
     requires { ⌜ (isBytes side (now mx) ≡ true) × (isBytes side (now my) ≡ true) ⌝ }
-    ensures { λ r. ⌜ after (Answers.is r) (now (table .exit)) (now (queue .exit)) ≡ done qubits (built qubits (nativeString side (ofBytes side (now (mx .entry))) (ofBytes side (now (my .entry))))) ⌝ }
+    ensures { λ r. ⌜ after (Answers.is r) (now (table .exit)) (now (queue .exit)) ≡ done qubits (built qubits (pairString side (now (mx .entry)) (now (my .entry)))) ⌝ }
 {
     let held = natives::natives_unchecked(mx, my);
     let strings = held.strings;

@@ -22,12 +22,12 @@ use Rattle.table.specs.Entries.{depth, Names, KeptFor, leads}
 use Rattle.table.specs.Rules.{NoNative, Down, Rule}
 use Rattle.table.specs.Answers.{isTable, entries, deepest, given}
 use Rattle.table.proofs.Answers.{is-given}
-use Rattle.builder.specs.declared.Built.{Built}
-use Rattle.builder.specs.declared.BuildAnswer.the-variants.{Is as WasBuilt}
 use Rattle.discovery.specs.Model.{built}
 use Rattle.discovery.specs.States.{twelve}
-use Rattle.builder.specs.Answers.{After, done, build}
 use Rattle.discovery.proofs.Meets as Meets
+use Rattle.builder.specs.declared.Built.{Built}
+use Rattle.builder.specs.declared.BuildAnswer.the-variants.{Is as WasBuilt}
+use Rattle.builder.specs.Answers.{After, done, build}
 use Rattle.builder.proofs.Answers.{all-right, answered-built}
 use Rattle.table_check.specs.declared.CheckAnswer.{CheckAnswer}
 use Rattle.table_check.specs.declared.CheckAnswer.the-variants.{Accepted, Refused}
@@ -111,10 +111,10 @@ pub record Tied (f e e′ : ℕ → ℕ) (p : ℕ) : Type 0 where
   pub down : NoNative f p → Has e′ p → (n : ℕ) × Down qubits f e′ p n
 
 -- then if every index of e meets its rule, every index of e′ does: whichever of the rotations that lead down a table names, it passes
-pub ties-are-free : (mx my : List ℕ) (e e′ : ℕ → ℕ) → ((p : ℕ) → p < 4 ^ qubits → Rule qubits (pairString mx my) e p)
-    → ((p : ℕ) → p < 4 ^ qubits → Tied (pairString mx my) e e′ p) → (p : ℕ) → p < 4 ^ qubits → Rule qubits (pairString mx my) e′ p
+pub ties-are-free : (mx my : List ℕ) (e e′ : ℕ → ℕ) → ((p : ℕ) → p < 4 ^ qubits → Rule qubits (pairString side mx my) e p)
+    → ((p : ℕ) → p < 4 ^ qubits → Tied (pairString side mx my) e e′ p) → (p : ℕ) → p < 4 ^ qubits → Rule qubits (pairString side mx my) e′ p
 ties-are-free mx my e e′ ok tied p h =
-    let f = pairString mx my in
+    let f = pairString side mx my in
     let t = tied p h in
     let r = ok p h in
     let there : (n : ℕ) → leads qubits f p n < 4 ^ qubits = λ n. rotate-string qubits p (f n) h (small mx my n) in

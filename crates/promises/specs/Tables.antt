@@ -24,10 +24,10 @@ use Rattle.table.specs.Answers.{isTable, entries, deepest}
 use Rattle.table.proofs.Rules.{rules, rule-valid}
 use Rattle.table.proofs.Plans.{sequence-reaches, entry-sequence}
 use Rattle.discovery.specs.Model.{built}
-use Rattle.builder.specs.Answers.{toldBuild, build, done}
 use Rattle.discovery.specs.States.{twelve}
 use Rattle.discovery.proofs.Meets as Meets
 use Rattle.discovery.proofs.States.{good-counts}
+use Rattle.builder.specs.Answers.{toldBuild, build, done}
 use Rattle.builder.proofs.Answers.{all-right}
 
 module _ (mx my : Matrix) where

@@ -2,8 +2,8 @@
 use borrow.Author.Needs.{needs}
 use mathlib.Core.Path.{ap, _∙_}
 use Rattle.pauli_string.specs.Strings.{qubits}
-use Rattle.measurement.specs.Matrices.{side, ofBytes}
-use Rattle.measurement.specs.Measures.{nativeString}
+use Rattle.measurement.specs.Matrices.{side}
+use Rattle.measurement.specs.Measures.{pairString}
 use Rattle.natives.specs.Arrays.{at}
 use Rattle.natives.proofs.Arrays.{natives-at, natives-held, natives-flagged}
 use Rattle.discovery.proofs.Same.{built-same}
@@ -38,7 +38,7 @@ returns c =
     let a = n .before .before .before .before .before .args in
     let r = n .natives-unchecked in
     b .build-from .ensures
-    ∙ ap (done qubits) (built-same qubits (at (r .result .strings)) (nativeString side (ofBytes side (a .mx .now)) (ofBytes side (a .my .now))) (natives-at (a .mx .now) (a .my .now) (r .result) (r .ensures)))
+    ∙ ap (done qubits) (built-same qubits (at (r .result .strings)) (pairString side (a .mx .now) (a .my .now)) (natives-at (a .mx .now) (a .my .now) (r .result) (r .ensures)))
 
 pub build-pair-spec : {M : Type 1} → statement M
 build-pair-spec =
