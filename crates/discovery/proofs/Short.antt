@@ -117,10 +117,6 @@ strung-noted false l x = refl
 
 -- ---- the digits
 
-pub length-noted : (short : Bool) (l : List ℕ) (x : ℕ) → length (noted short l x) ≡ length l
-length-noted true l x = length-set l ((520093696 + x) / 8) (setBit (getD l ((520093696 + x) / 8) 0) ((520093696 + x) % 8) 1)
-length-noted false l x = refl
-
 -- a queue that is not short has no digits
 pub notes-long : (q : ℕ) (l t : List ℕ) → Notes false q l t
 notes-long q l t s = absurd (subst T (sym s) tt)
