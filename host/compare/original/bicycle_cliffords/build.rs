@@ -1,3 +1,5 @@
+//! Lets the crate root include the original's files.
+
 fn main() {
     source::offer("bicycle_cliffords");
 }
