@@ -7,6 +7,7 @@
 // Copyright contributors to the Bicycle Architecture Compiler project. Licensed under the Apache License, Version 2.0
 // (see NOTICE).
 use bicycle_common::Refusal;
+use pauli_string::STRINGS;
 use table::TABLE_LENGTH;
 ghost use mathlib.Core.Path.{_≡_};
 ghost use mathlib.Core.Bool.{true};
@@ -16,6 +17,7 @@ ghost use Rattle.measurement.specs.Matrices.{side, isBytes};
 ghost use Rattle.measurement.specs.Measures.{pairString};
 ghost use Rattle.natives.specs.Arrays.{at, Held, flags};
 ghost use Rattle.table.specs.Bytes.{tableLength};
+ghost use Rattle.table.specs.Answers.{deepest};
 ghost use Rattle.discovery.specs.Model.{built};
 ghost use Rattle.builder.specs.Answers;
 ghost use Rattle.builder.specs.Answers.{after, done};
@@ -31,6 +33,23 @@ pub enum BuildAnswer {
     Refused(Refusal),
 }
 
+// The greatest depth in the table.
+fn deepest(table: &[u8]) -> u32
+    requires { ⌜ length (now table) ≡ tableLength qubits ⌝ }
+    ensures { λ r. ⌜ r ≡ deepest qubits (now (table .entry)) ⌝ }
+{
+    let mut best: u32 = 0;
+    let mut p: u32 = 0;
+    while p < STRINGS {
+        let d = table::entry_unchecked(table, p) / 1024;
+        if best < d {
+            best = d;
+        }
+        p += 1;
+    }
+    best
+}
+
 // The build from the natives' strings and kept flags.
 fn build_from(table: &mut [u8], queue: &mut [u8], strings: &[u32], kept: &[bool; 540]) -> Built
     requires { ⌜ (length (now table) ≡ tableLength qubits) × (length (now queue) ≡ tableLength qubits) ⌝ }
@@ -40,10 +59,10 @@ fn build_from(table: &mut [u8], queue: &mut [u8], strings: &[u32], kept: &[bool;
     discovery::begin_unchecked(table, queue);
     let n = discovery::seeds_unchecked(table, queue, strings);
     let c = search::search_unchecked(table, queue, strings, kept, n);
-    let deepest = table::deepest_unchecked(table);
+    let d = deepest(table);
     Built {
         entries: c + 1,
-        depth: deepest,
+        depth: d,
     }
 }
 

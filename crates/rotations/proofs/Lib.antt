@@ -1,4 +1,2 @@
 -- Laws of the packed rotations that belong to no one function.
 pub mod Packed
-pub mod Parity
-pub mod Moves

@@ -1,3 +1,2 @@
 -- What the contracts of `rotations` cite.
 pub mod Packed
-pub mod Moves

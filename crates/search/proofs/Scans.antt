@@ -12,7 +12,7 @@ use Rattle.natives.specs.Arrays.{at}
 use Rattle.table.specs.Bytes.{entry}
 use Rattle.table.specs.Entries.{depth}
 use Rattle.rotations.specs.Packed.{Rotations, Packed}
-use Rattle.rotations.specs.Moves.{Scratch}
+use Rattle.moves.specs.Moves.{Scratch}
 use Rattle.digits.specs.Filter.{Covers}
 use Rattle.discovery.specs.Model.{State, attempt, expand}
 use Rattle.discovery.specs.States.{Fits, Good, Moving}

@@ -14,7 +14,7 @@ use Rattle.shortest.specs.Graphs.{Has}
 use Rattle.table.specs.Bytes.{entry}
 use Rattle.table.specs.Entries.{value, leads}
 use Rattle.rotations.specs.Packed.{Rotations, Packed}
-use Rattle.rotations.specs.Moves.{Led, none, stays, moves}
+use Rattle.moves.specs.Moves.{Led, none, stays, moves}
 use Rattle.rotations.proofs.Packed.{chosen-turns}
 use Rattle.discovery.specs.Model.{State, discover, attempt}
 use Rattle.discovery.specs.States.{Fits, Beside}

@@ -18,7 +18,7 @@ ghost use Rattle.natives.specs.Arrays.{at, Held, flags};
 ghost use Rattle.table.specs.Bytes.{entry};
 ghost use Rattle.table.specs.Entries.{depth};
 ghost use Rattle.rotations.specs.Packed.{Rotations};
-ghost use Rattle.rotations.specs.Moves.{Scratch};
+ghost use Rattle.moves.specs.Moves.{Scratch};
 ghost use Rattle.digits.specs.Filter.{Covers};
 ghost use Rattle.discovery.specs.Model.{state, expand};
 ghost use Rattle.discovery.specs.States.{Good, Asks, Moving};
@@ -80,7 +80,7 @@ fn turn(
     requires { ⌜ Notes short qubits (now queue) (now table) × Room short count natives ⌝ }
     ensures { λ r. ⌜ Scratch (now (xs .exit)) (now (gs .exit)) × (state (now (table .exit)) (strung short (now (queue .exit))) r ≡ inTurn m (packedTried qubits (now (rs .entry)) (now (ns .entry)) p depth) (state (now (table .entry)) (strung short (now (queue .entry))) count)) × Notes short qubits (now (queue .exit)) (now (table .exit)) ⌝ }
 {
-    let k = rotations::gather_unchecked(p, rs, ns, m, xs, gs);
+    let k = moves::gather_unchecked(p, rs, ns, m, xs, gs);
     visits(table, queue, short, xs, gs, k, depth, count)
 }
 

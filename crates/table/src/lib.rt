@@ -24,7 +24,7 @@ ghost use Rattle.bicycle_common.specs.Ranges.{allBelow};
 ghost use Rattle.pauli_string.specs.Strings.{qubits};
 ghost use Rattle.measurement.specs.Matrices.{side};
 ghost use Rattle.table.specs.Bytes.{tableLength, entry, put, zeros};
-ghost use Rattle.table.specs.Answers.{given, isEmpty, entries, lenOf, deepest, valueAt, hasEntryAt, depthAt, fieldAt, costed, costAt};
+ghost use Rattle.table.specs.Answers.{given, isEmpty, entries, lenOf, valueAt, hasEntryAt, depthAt, fieldAt, costed, costAt};
 
 // The bytes of a table: four for each of the 4^12 strings
 pub const TABLE_LENGTH: usize = 67108864;
@@ -151,23 +151,6 @@ pub fn len(table: &[u8]) -> NumberAnswer
         return NumberAnswer::Refused(Refusal::TableLength);
     }
     NumberAnswer::Is(len_unchecked(table))
-}
-
-// The greatest depth.
-pub fn deepest_unchecked(table: &[u8]) -> u32
-    requires { ⌜ length (now table) ≡ tableLength qubits ⌝ }
-    ensures { λ r. ⌜ r ≡ deepest qubits (now (table .entry)) ⌝ }
-{
-    let mut best: u32 = 0;
-    let mut p: u32 = 0;
-    while p < STRINGS {
-        let d = entry_unchecked(table, p) / 1024;
-        if best < d {
-            best = d;
-        }
-        p += 1;
-    }
-    best
 }
 
 // ---- one string

@@ -36,8 +36,8 @@ search-unchecked-requires c κs =
     let s = d .before .before .before .before .before .before .before .before .before .before .before .before .before in
     (s .pre .1, (subst (Good qubits) (sym (d .seeds-unchecked .ensures .0)) (seeded-good qubits twelve (at (s .args .strings .now)) (s .pre .1 .0 .small)), d .seeds-unchecked .ensures .1))
 
-deepest-unchecked-requires : tie.Need-deepest-unchecked-requires
-deepest-unchecked-requires c κs = search needs
+deepest-requires : tie.Need-deepest-requires
+deepest-requires c κs = search needs
 
 add-t23 : tie.Need-add-t23
 add-t23 c =
@@ -54,7 +54,7 @@ same-length-2 c = search needs
 returns : tie.Need-returns
 returns c =
     let e = c .before .before .before .before .before .before in
-    built-outcome qubits (e .search-unchecked .last .0) (e .search-unchecked .last .1 .0) (e .search-unchecked .result) (c .deepest-unchecked .result) (built qubits (at (e .before .before .before .before .before .before .before .before .before .before .before .before .before .before .before .before .before .before .before .before .args .strings .now))) (searched e) (searched-good e) (c .deepest-unchecked .ensures)
+    built-outcome qubits (e .search-unchecked .last .0) (e .search-unchecked .last .1 .0) (e .search-unchecked .result) (c .deepest .result) (built qubits (at (e .before .before .before .before .before .before .before .before .before .before .before .before .before .before .before .before .before .before .before .before .args .strings .now))) (searched e) (searched-good e) (c .deepest .ensures)
 
 pub build-from-spec : {M : Type 1} → statement M
 build-from-spec =
@@ -63,7 +63,7 @@ build-from-spec =
     begin-unchecked-requires
     seeds-unchecked-requires
     search-unchecked-requires
-    deepest-unchecked-requires
+    deepest-requires
     add-t23
     same-length
     same-length-2

@@ -1,5 +1,4 @@
 -- `table::put_unchecked` meets its contract: the four stores are the definition's. Assumes nothing.
-use borrow.Author.Needs.{needs}
 use native.Mathlib.Omega.{arith}
 use lib.ListN.{length-set}
 use Rattle.table.specs.Bytes.{put}
@@ -8,37 +7,37 @@ use Rattle.table.proofs.put_unchecked.Statement.{statement}
 use Rattle.table.proofs.put_unchecked.Tie as tie
 
 mul-i : tie.Need-mul-i
-mul-i c = search needs
+mul-i c = omega arith
 
 cast-table : tie.Need-cast-table
-cast-table c = search needs
+cast-table c = omega arith
 
 slice-write-table : tie.Need-slice-write-table
-slice-write-table c = search needs
+slice-write-table c = omega arith
 
 cast-table-2 : tie.Need-cast-table-2
-cast-table-2 c = search needs
+cast-table-2 c = omega arith
 
 add-table : tie.Need-add-table
-add-table c = search needs
+add-table c = omega arith
 
 slice-write-table-2 : tie.Need-slice-write-table-2
 slice-write-table-2 c = simp length-set (omega arith)
 
 cast-table-3 : tie.Need-cast-table-3
-cast-table-3 c = search needs
+cast-table-3 c = omega arith
 
 add-table-2 : tie.Need-add-table-2
-add-table-2 c = search needs
+add-table-2 c = omega arith
 
 slice-write-table-3 : tie.Need-slice-write-table-3
 slice-write-table-3 c = simp length-set (omega arith)
 
 cast-table-4 : tie.Need-cast-table-4
-cast-table-4 c = search needs
+cast-table-4 c = omega arith
 
 add-table-3 : tie.Need-add-table-3
-add-table-3 c = search needs
+add-table-3 c = omega arith
 
 slice-write-table-4 : tie.Need-slice-write-table-4
 slice-write-table-4 c = simp length-set (omega arith)

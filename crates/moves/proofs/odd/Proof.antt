@@ -1,10 +1,10 @@
--- `rotations::odd` meets its contract: folding leaves the parity of the ones. Assumes nothing.
+-- `moves::odd` meets its contract: folding leaves the parity of the ones. Assumes nothing.
 use mathlib.Core.Path.{refl}
 use native.Mathlib.Omega.{arith}
 use lib.Bits.{bitAnd, and-le-r}
-use Rattle.rotations.proofs.Parity.{folded}
-use Rattle.rotations.proofs.odd.Statement.{statement}
-use Rattle.rotations.proofs.odd.Tie as tie
+use Rattle.moves.proofs.Parity.{folded}
+use Rattle.moves.proofs.odd.Statement.{statement}
+use Rattle.moves.proofs.odd.Tie as tie
 
 returns : tie.Need-returns
 returns c =

@@ -1,4 +1,4 @@
--- `rotations::odds` meets its contract: each store leaves those before it. Assumes nothing.
+-- `moves::odds` meets its contract: each store leaves those before it. Assumes nothing.
 use borrow.Author.Needs.{needs}
 use mathlib.Core.Path.{_≡_, sym, ap, subst, _∙_}
 use Prim.Native.Nat.{ℕ, _%_, _≤_, _-_}
@@ -10,9 +10,9 @@ use lib.ListN.{length, set, length-set}
 use lib.Seq.{getD-set-same, getD-set-other}
 use Rattle.native_measurement.specs.Natives.{natives}
 use Rattle.natives.specs.Arrays.{at}
-use Rattle.rotations.specs.Moves.{Odds}
-use Rattle.rotations.proofs.odds.Statement.{statement}
-use Rattle.rotations.proofs.odds.Tie as tie
+use Rattle.moves.specs.Moves.{Odds}
+use Rattle.moves.proofs.odds.Statement.{statement}
+use Rattle.moves.proofs.odds.Tie as tie
 
 abbrev Inv-loop : tie.InvT-loop
 Inv-loop t rs m gs₀ i₀ gs i = (i ≤ m) × (length gs ≡ natives) × Odds t rs 0 i gs

@@ -1,4 +1,4 @@
--- `table::deepest_unchecked` meets its contract: the best so far is the greatest of the depths passed. Assumes nothing.
+-- `builder::deepest` meets its contract: the best so far is the greatest of the depths passed. Assumes nothing.
 use borrow.Author.Needs.{needs}
 use mathlib.Core.Path.{_≡_, sym, ap, _∙_}
 use mathlib.Core.Logic.{⊎-elim}
@@ -7,10 +7,10 @@ use native.Mathlib.Omega.{arith}
 use Rattle.bicycle_common.specs.Ranges.{most}
 use Rattle.bicycle_common.proofs.Ranges.{most-none, most-next}
 use Rattle.pauli_string.specs.Strings.{qubits}
 use Rattle.table.specs.Bytes.{entry}
 use Rattle.table.specs.Entries.{depth}
-use Rattle.table.proofs.deepest_unchecked.Statement.{statement}
-use Rattle.table.proofs.deepest_unchecked.Tie as tie
+use Rattle.builder.proofs.deepest.Statement.{statement}
+use Rattle.builder.proofs.deepest.Tie as tie
 
 abbrev Inv-loop : tie.InvT-loop
 Inv-loop table best₀ p₀ best p = (p ≤ 4 ^ qubits) × (best ≡ most p (λ (r : ℕ). depth (entry table r)))
@@ -49,8 +49,8 @@ returns c =
     let z : l .loop .p ≡ 4 ^ qubits = omega arith in
     l .loop .inv .1 ∙ ap (λ (n : ℕ). most n (λ (r : ℕ). depth (entry (l .before .before .args .table .now) r))) z
 
-pub deepest-unchecked-spec : {M : Type 1} → statement M
-deepest-unchecked-spec =
+pub deepest-spec : {M : Type 1} → statement M
+deepest-spec =
     tie.close
     (tie.spec
     Inv-loop

@@ -1,4 +1,4 @@
--- `rotations::gather_unchecked` meets its contract: each rotation is stored behind those that move p, and counts where the two anticommute; what is
+-- `moves::gather_unchecked` meets its contract: each rotation is stored behind those that move p, and counts where the two anticommute; what is
 -- told of the later ones stands behind what is stored. Assumes nothing.
 use borrow.Author.Needs.{needs}
 use mathlib.Core.Path.{_≡_, subst, _∙_}
@@ -8,10 +8,10 @@ use lib.Seq.{getD-set-other}
 use Rattle.pauli_string.specs.Strings.{qubits, clashes}
 use Rattle.pauli_string.proofs.Commutation.{count-law}
 use Rattle.natives.specs.Arrays.{at}
-use Rattle.rotations.specs.Moves.{none, Odds, Gathered}
-use Rattle.rotations.proofs.Moves.{gather-more}
-use Rattle.rotations.proofs.gather_unchecked.Statement.{statement}
-use Rattle.rotations.proofs.gather_unchecked.Tie as tie
+use Rattle.moves.specs.Moves.{none, Odds, Gathered}
+use Rattle.moves.proofs.Moves.{gather-more}
+use Rattle.moves.proofs.gather_unchecked.Statement.{statement}
+use Rattle.moves.proofs.gather_unchecked.Tie as tie
 
 -- the transposed of p
 abbrev turned : ℕ → ℕ

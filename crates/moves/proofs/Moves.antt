@@ -12,8 +12,8 @@ use borrow.Author.Tests.{eq-eqb, ne-eqb}
 use Rattle.pauli_string.specs.Strings.{clashes, commute, conj, blank, rotate}
 use Rattle.pauli_string.proofs.Commutation.{conj-commuting, conj-anti}
 use Rattle.natives.specs.Arrays.{at}
 use Rattle.rotations.specs.Packed.{Rotations}
-use Rattle.rotations.specs.Moves.{Led, none, stays, moves, Gathered}
+use Rattle.moves.specs.Moves.{Led, none, stays, moves, Gathered}
 
 -- a rotation by a blanked string, decided by the clashes
 rotate-stays : (q p r : ℕ) → blank q r ≡ r → clashes q p r q % 2 ≡ 0 → rotate q p r ≡ p
