@@ -1,59 +1,24 @@
-// Runs both sides of each edge that document 01 names and that needs no whole table; host/tests/tables.rs runs the others. A line
-// for each case, or a listing, to be held to `stdout`, which was written from document 01.
+// Runs both sides of each edge that document 01 names and that needs no table; `table_edges` runs those of the calls on tables, and
+// host/tests/tables.rs those that need a whole one. A line for each case, or a listing, to be held to `stdout`, which was written
+// from document 01.
 use bicycle_common::LetterAnswer;
-use bicycle_common::Outcome;
 use bicycle_common::Pauli;
-use builder::BuildAnswer;
-use lookup::LookupAnswer;
+use cases::OTHER;
+use cases::case;
+use cases::end;
+use cases::flag;
+use cases::left;
 use measurement::CodeMeasurement;
 use native_measurement::NativeAnswer;
 use native_measurement::NativeMeasurement;
 use native_measurement::NativeNumber;
-use pauli_string::BoolAnswer;
 use pauli_string::Letter;
 use pauli_string::PauliString;
 use pauli_string::StringAnswer;
 use pauli_string::X1;
 use shown::IDENTITY;
 use shown::say;
-use table::NumberAnswer;
-use table_check::CheckAnswer;
 use text::WriteAnswer;
-ghost use Prim.Native.Nat.{_≤_, _<_};
-ghost use lib.ListN.{length};
-
-// What lent memory holds before a call. No text has such a byte.
-const OTHER: u8 = 165;
-
-fn case(name: &[u8]) {
-    say(name);
-    say(b": ");
-}
-
-fn end() {
-    say(b"\n");
-}
-
-// How many bytes are as they were.
-fn untouched(bytes: &[u8]) -> u64
-    ensures { λ r. ⌜ r ≤ length (now (bytes .entry)) ⌝ }
-{
-    let mut n: u64 = 0;
-    let mut i: usize = 0;
-    while i < bytes.len() {
-        if bytes[i] == OTHER {
-            n += 1;
-        }
-        i += 1;
-    }
-    n
-}
-
-fn left(bytes: &[u8]) {
-    case(b"untouched");
-    shown::number(untouched(bytes));
-    end();
-}
 
 // ---- 13: text and letters
 
@@ -68,12 +33,6 @@ fn letter(answer: LetterAnswer) {
 fn string(name: &[u8], answer: StringAnswer) {
     case(name);
     shown::string(answer);
-    end();
-}
-
-fn flag(name: &[u8], answer: BoolAnswer) {
-    case(name);
-    shown::flag(answer);
     end();
 }
 
@@ -211,123 +170,6 @@ fn rows() {
     string(b"by value, with a 2", pair.measures(n));
 }
 
-// ---- 1: a table too short
-
-fn number(name: &[u8], answer: NumberAnswer) {
-    case(name);
-    match answer {
-        NumberAnswer::Is(n) => shown::number(n as u64),
-        NumberAnswer::Refused(r) => shown::refused(r),
-    }
-    end();
-}
-
-fn given(answer: Outcome) {
-    case(b"given");
-    match answer {
-        Outcome::Done => say(b"done"),
-        Outcome::Refused(r) => shown::refused(r),
-    }
-    end();
-}
-
-fn check(answer: CheckAnswer) {
-    case(b"check");
-    match answer {
-        CheckAnswer::Accepted => say(b"accepted"),
-        CheckAnswer::Rejected(p) => shown::number(p.0 as u64),
-        CheckAnswer::Refused(r) => shown::refused(r),
-    }
-    end();
-}
-
-fn lookup(name: &[u8], answer: LookupAnswer) {
-    case(name);
-    match answer {
-        LookupAnswer::Is(plan) => shown::number(plan.rotations as u64),
-        LookupAnswer::Refused(r) => shown::refused(r),
-    }
-    end();
-}
-
-fn front(length: usize) {
-    case(b"bytes of its rotations");
-    shown::number(length as u64);
-    end();
-}
-
-fn build(answer: BuildAnswer) {
-    case(b"build");
-    match answer {
-        BuildAnswer::Is(built) => shown::number(built.entries as u64),
-        BuildAnswer::Refused(r) => shown::refused(r),
-    }
-    end();
-}
-
-fn values(table: &[u8], p: PauliString) {
-    flag(b"is empty", table::is_empty(table));
-    number(b"entries", table::len(table));
-    number(b"value", table::value(table, p));
-    number(b"depth", table::depth(table, p));
-    number(b"field", table::field(table, p));
-    number(b"cost", table::cost(table, p));
-}
-
-// The same reads, by a view of the table.
-fn viewed(table: &[u8], p: PauliString) {
-    let entry = view::entry(table, p);
-    let value = entry.value;
-    let has_entry = entry.has_entry;
-    let depth = entry.depth;
-    let cost = entry.cost;
-    number(b"viewed value", value);
-    flag(b"has entry", has_entry);
-    number(b"viewed depth", depth);
-    number(b"viewed cost", cost);
-}
-
-fn lookups(table: &[u8], mx: &[u8], my: &[u8], p: PauliString) {
-    let mut out = [OTHER; 4];
-    let exact = lookup::implementation(table, mx, my, p, &mut out);
-    lookup(b"exact lookup", exact);
-    let rotations = lookup::rotations(table, mx, my, p, &mut out);
-    front(rotations.len());
-    let pivot_free = lookup::min_data(table, mx, my, p, &mut out);
-    lookup(b"pivot-free lookup", pivot_free);
-    let rotations = lookup::min_data_rotations(table, mx, my, p, &mut out);
-    front(rotations.len());
-    left(&out);
-}
-
-// Every call that reads a table.
-fn reads(table: &[u8], mx: &[u8], my: &[u8], p: PauliString) {
-    given(table::given(table, mx, my));
-    check(table_check::check(table, mx, my));
-    values(table, p);
-    viewed(table, p);
-    lookups(table, mx, my, p);
-}
-
-fn builds(mx: &[u8], my: &[u8]) {
-    let mut table = [OTHER; 100];
-    let mut queue = [OTHER; 100];
-    build(builder::build(&mut table, &mut queue, mx, my));
-    left(&table);
-    left(&queue);
-}
-
-fn tables() {
-    let zero = [0u8; 36];
-    say(b"no table\n");
-    reads(b"", &zero, &zero, X1);
-    say(b"a table of 65536 bytes, a matrix of 2, string 16777216\n");
-    let table = io::large_buffer();
-    reads(&table, b"10", &zero, PauliString(16777216));
-    builds(&zero, &zero);
-    builds(b"10", &zero);
-}
-
 // ---- 9, and the numbers of a plan
 
 fn list(name: &[u8], input: &[u8], out: &mut [u8]) {
@@ -375,6 +217,5 @@ fn main() {
     lengths();
     twos();
     rows();
-    tables();
     plans();
 }

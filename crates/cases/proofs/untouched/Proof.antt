@@ -1,11 +1,11 @@
--- `edges::untouched` meets its contract: it counts no more bytes than it passed. Assumes nothing.
+-- `cases::untouched` meets its contract: it counts no more bytes than it passed. Assumes nothing.
 use Prim.Native.Nat.{_≤_, _-_}
 use native.Mathlib.Omega.{arith}
 use lib.ListN.{length}
 use mathlib.Core.Logic.{⊎-elim}
 use borrow.Author.Needs.{needs}
-use Rattle.edges.proofs.untouched.Statement.{statement}
-use Rattle.edges.proofs.untouched.Tie as tie
+use Rattle.cases.proofs.untouched.Statement.{statement}
+use Rattle.cases.proofs.untouched.Tie as tie
 
 abbrev Inv-loop : tie.InvT-loop
 Inv-loop bytes n₀ i₀ n i = (n ≤ i) × (i ≤ length bytes)
