@@ -33,7 +33,7 @@ use text::WriteAnswer;
 // ---- the build
 
 #[repr(C)]
-#[derive(Drop)]
+#[derive(Clone, Copy)]
 pub struct BuildResult {
     pub number: u32,
     pub entries: u32,
@@ -74,7 +74,7 @@ pub extern "C" fn bicycle_build(
 
 // accepted is 1 or 0; index is the lowest that breaks its rule, 0 where the table is accepted.
 #[repr(C)]
-#[derive(Drop)]
+#[derive(Clone, Copy)]
 pub struct CheckResult {
     pub number: u32,
     pub accepted: u32,
@@ -115,7 +115,7 @@ pub extern "C" fn bicycle_check(table: &[u8], mx: &[u8], my: &[u8]) -> CheckResu
 
 // The length needed stands first, so that there is no gap between fields.
 #[repr(C)]
-#[derive(Drop)]
+#[derive(Clone, Copy)]
 pub struct LookupResult {
     pub needed: usize,
     pub number: u32,
@@ -179,7 +179,7 @@ pub extern "C" fn bicycle_min_data(
 // ---- one value
 
 #[repr(C)]
-#[derive(Drop)]
+#[derive(Clone, Copy)]
 pub struct ValueResult {
     pub number: u32,
     pub value: u32,
@@ -304,7 +304,7 @@ pub extern "C" fn bicycle_measures(mx: &[u8], my: &[u8], n: u32) -> ValueResult
 
 // length is that of the text in front of the buffer.
 #[repr(C)]
-#[derive(Drop)]
+#[derive(Clone, Copy)]
 pub struct TextResult {
     pub needed: usize,
     pub length: usize,
@@ -370,7 +370,7 @@ pub extern "C" fn bicycle_list(input: &[u8], out: &mut [u8]) -> TextResult
 
 // Capitals: the letter, and the two that anticommute with it, 0 where there are none.
 #[repr(C)]
-#[derive(Drop)]
+#[derive(Clone, Copy)]
 pub struct LetterResult {
     pub number: u32,
     pub letter: u32,
@@ -422,7 +422,7 @@ pub extern "C" fn bicycle_letter(byte: u8) -> LetterResult
 
 // Components are reduced modulo 6. Nothing is refused.
 #[repr(C)]
-#[derive(Drop)]
+#[derive(Clone, Copy)]
 pub struct AutomorphismResult {
     pub generators: u64,
     pub x: u32,

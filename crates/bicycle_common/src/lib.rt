@@ -13,7 +13,7 @@ ghost use Rattle.bicycle_common.specs.Automorphisms.{component, of_pair, inverse
 ghost use Rattle.bicycle_common.specs.Instructions.{instruction_shown};
 
 // Why a call refused: a case for each number of document 01, in its order.
-#[derive(Drop)]
+#[derive(Clone, Copy)]
 pub enum Refusal {
     // 1: the table's length is not 67,108,864
     TableLength,
@@ -92,13 +92,13 @@ impl Refusal {
 }
 
 // What stands beside an array: that it holds the answer, or the refusal with the array all zeros.
-#[derive(Drop)]
+#[derive(Clone, Copy)]
 pub enum Outcome {
     Done,
     Refused(Refusal),
 }
 
-#[derive(Drop)]
+#[derive(Clone, Copy)]
 pub enum Pauli {
     I,
     X,
@@ -107,14 +107,14 @@ pub enum Pauli {
 }
 
 // The two letters that anticommute with a letter, or that it is the identity, with which every letter commutes.
-#[derive(Drop)]
+#[derive(Clone, Copy)]
 pub enum Anticommuting {
     Letters(Pauli, Pauli),
     Identity,
 }
 
 // A letter, or the refusal.
-#[derive(Drop)]
+#[derive(Clone, Copy)]
 pub enum LetterAnswer {
     Is(Pauli),
     Refused(Refusal),
@@ -185,7 +185,7 @@ impl Pauli {
 
 // A shift automorphism, an element of Z6 x Z6. Components are reduced before any use, so it does not matter how a value
 // was made.
-#[derive(Drop)]
+#[derive(Clone, Copy)]
 pub struct AutomorphismData {
     x: u8,
     y: u8,
@@ -254,14 +254,14 @@ impl AutomorphismData {
 }
 
 // Bases on the pivots of both halves, qubits 1 and 7 in the original's count, one of which is not the identity.
-#[derive(Drop)]
+#[derive(Clone, Copy)]
 pub struct TwoBases {
     p1: Pauli,
     p7: Pauli,
 }
 
 // Two bases, or that both letters are the identity.
-#[derive(Drop)]
+#[derive(Clone, Copy)]
 pub enum TwoBasesAnswer {
     Is(TwoBases),
     BothIdentity,
@@ -304,7 +304,7 @@ impl TwoBases {
 }
 
 // The instructions that plans use.
-#[derive(Drop)]
+#[derive(Clone, Copy)]
 pub enum BicycleISA {
     // A shift automorphism
     Automorphism(AutomorphismData),
@@ -313,7 +313,7 @@ pub enum BicycleISA {
 }
 
 // An instruction as text: `len` bytes, then zeros.
-#[derive(Drop)]
+#[derive(Clone, Copy)]
 pub struct IsaText {
     pub bytes: [u8; 9],
     pub len: usize,

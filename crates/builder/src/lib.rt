@@ -22,13 +22,13 @@ use pauli_string::STRINGS;
 use table::TABLE_LENGTH;
 
 // What was built: the number of entries, identity included, and the greatest depth.
-#[derive(Drop)]
+#[derive(Clone, Copy)]
 pub struct Built {
     pub entries: u32,
     pub depth: u32,
 }
 
-#[derive(Drop)]
+#[derive(Clone, Copy)]
 pub enum BuildAnswer {
     Is(Built),
     Refused(Refusal),

@@ -16,7 +16,7 @@ use native_measurement::{ImplementationAnswer, NativeNumber};
 use pauli_string::{PauliString, StringAnswer};
 
 // The five instructions of a rotation in their order, or the refusal.
-#[derive(Drop)]
+#[derive(Clone, Copy)]
 pub enum RotationAnswer {
     Is(BicycleISA, BicycleISA, BicycleISA, BicycleISA, BicycleISA),
     Refused(Refusal),

@@ -26,21 +26,21 @@ use native_measurement::NativeNumber;
 use pauli_string::{PauliString, STRINGS};
 
 // A native, and the string that it measures.
-#[derive(Drop)]
+#[derive(Clone, Copy)]
 pub struct NativeMeasurementImpl {
     pub native: NativeNumber,
     pub measures: PauliString,
 }
 
 // A plan: the base, the count of the rotations, whose natives stand in the lent buffer, and the string measured.
-#[derive(Drop)]
+#[derive(Clone, Copy)]
 pub struct MeasurementImpl {
     pub base: NativeMeasurementImpl,
     pub rotations: u32,
     pub measures: PauliString,
 }
 
-#[derive(Drop)]
+#[derive(Clone, Copy)]
 pub enum LookupAnswer {
     Is(MeasurementImpl),
     Refused(Refusal),

@@ -67,13 +67,13 @@ const IDENTITY: [[u8; 6]; 6] = [
 ];
 
 // A pair of matrices by value, each by rows. A struct's field cannot be an array of arrays.
-#[derive(Drop)]
+#[derive(Clone, Copy)]
 pub struct CodeMeasurement {
     pub mx: [u8; 36],
     pub my: [u8; 36],
 }
 
-#[derive(Drop)]
+#[derive(Clone, Copy)]
 pub enum MeasurementChoices {
     Gross,
     TwoGross,

@@ -18,25 +18,25 @@ use bicycle_common::{AutomorphismData, BicycleISA, Pauli, Refusal, TwoBases, Two
 pub const NATIVES: u16 = 540;
 
 // The number of a native measurement. It is no string: a string is a `PauliString`.
-#[derive(Drop)]
+#[derive(Clone, Copy)]
 pub struct NativeNumber(pub u16);
 
 // A measurement that can be performed on the code by conjugating one base measurement with automorphisms.
-#[derive(Drop)]
+#[derive(Clone, Copy)]
 pub struct NativeMeasurement {
     pub logical: TwoBases,
     pub automorphism: AutomorphismData,
 }
 
 // A native measurement, or the refusal.
-#[derive(Drop)]
+#[derive(Clone, Copy)]
 pub enum NativeAnswer {
     Is(NativeMeasurement),
     Refused(Refusal),
 }
 
 // The three instructions of a native measurement in their order, or the refusal.
-#[derive(Drop)]
+#[derive(Clone, Copy)]
 pub enum ImplementationAnswer {
     Is(BicycleISA, BicycleISA, BicycleISA),
     Refused(Refusal),

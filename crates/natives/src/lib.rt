@@ -24,7 +24,7 @@ ghost use Rattle.natives.specs.Chains.{bucket, Next, Linked, occurrences};
 use measurement::CodeMeasurement;
 
 // The natives of a pair.
-#[derive(Drop)]
+#[derive(Clone, Copy)]
 pub struct Natives {
     pub pair: CodeMeasurement,
     // The string of each native

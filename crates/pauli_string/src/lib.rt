@@ -17,7 +17,7 @@ ghost use Rattle.pauli_string.specs.Answers.{mul, commutes_with, conjugate_with,
 use bicycle_common::{LetterAnswer, Outcome, Pauli, Refusal};
 
 // A string of twelve Paulis. Bit i is X on qubit i, bit 12 + i is Z, both are Y. Qubit 0 is the pivot.
-#[derive(Drop)]
+#[derive(Clone, Copy)]
 pub struct PauliString(pub u32);
 
 // 4^12: strings are below it.
@@ -47,32 +47,32 @@ fn on_pivot(p: Pauli) -> PauliString
 }
 
 // A string, or the refusal.
-#[derive(Drop)]
+#[derive(Clone, Copy)]
 pub enum StringAnswer {
     Is(PauliString),
     Refused(Refusal),
 }
 
 // True or false, or the refusal.
-#[derive(Drop)]
+#[derive(Clone, Copy)]
 pub enum BoolAnswer {
     Is(bool),
     Refused(Refusal),
 }
 
 // A letter in an array: a struct's field cannot be an array of enums.
-#[derive(Drop)]
+#[derive(Clone, Copy)]
 pub struct Letter(pub Pauli);
 
 // The letters of a string, qubit 0 first; all I on a refusal.
-#[derive(Drop)]
+#[derive(Clone, Copy)]
 pub struct LettersAnswer {
     pub outcome: Outcome,
     pub letters: [Letter; 12],
 }
 
 // The text of a string, qubit 11 first and qubit 0 last, in every language; all zeros on a refusal.
-#[derive(Drop)]
+#[derive(Clone, Copy)]
 pub struct TextAnswer {
     pub outcome: Outcome,
     pub bytes: [u8; 12],

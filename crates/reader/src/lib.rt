@@ -21,14 +21,14 @@ use pauli_string::PauliString;
 use text::NumberAnswer;
 
 // The native of a line, or the refusal.
-#[derive(Drop)]
+#[derive(Clone, Copy)]
 enum LineAnswer {
     Is(NativeNumber),
     Refused(Refusal),
 }
 
 // The numbers of a matrix line; all zeros on a refusal.
-#[derive(Drop)]
+#[derive(Clone, Copy)]
 struct MatrixAnswer {
     pub outcome: Outcome,
     pub numbers: [u8; 36],
@@ -36,7 +36,7 @@ struct MatrixAnswer {
 
 // A plan: the pair, the base, the string measured, and the rotations, base side first, with zeros behind them; all zeros
 // on a refusal.
-#[derive(Drop)]
+#[derive(Clone, Copy)]
 pub struct PlanAnswer {
     pub outcome: Outcome,
     pub pair: CodeMeasurement,

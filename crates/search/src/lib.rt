@@ -28,7 +28,7 @@ ghost use Rattle.search.specs.Scans.{Reaches};
 const SHORT: u32 = 16252388;
 
 // What was reached in the queue: the next place, and how many strings it holds.
-#[derive(Drop)]
+#[derive(Clone, Copy)]
 struct Reached {
     place: u32,
     count: u32,

@@ -24,7 +24,7 @@ use pauli_string::{BoolAnswer, PauliString, STRINGS};
 pub const TABLE_LENGTH: usize = 67108864;
 
 // A number, or the refusal of it.
-#[derive(Drop)]
+#[derive(Clone, Copy)]
 pub enum NumberAnswer {
     Is(u32),
     Refused(Refusal),

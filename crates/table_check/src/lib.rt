@@ -31,7 +31,7 @@ const GAP: u32 = 4194305;
 const FEW: u32 = 131072;
 
 // What the check says of a table: that every index meets its rule, or the lowest index that breaks it.
-#[derive(Drop)]
+#[derive(Clone, Copy)]
 pub enum CheckAnswer {
     Accepted,
     Rejected(PauliString),

@@ -11,14 +11,14 @@ ghost use Rattle.text.specs.Decimals.{decimal, is_digit, all_digits, number_in, 
 use bicycle_common::Refusal;
 
 // The length of a text that was written, or the refusal.
-#[derive(Drop)]
+#[derive(Clone, Copy)]
 pub enum WriteAnswer {
     Is(usize),
     Refused(Refusal),
 }
 
 // A number, or that the text is none.
-#[derive(Drop)]
+#[derive(Clone, Copy)]
 pub enum NumberAnswer {
     Is(u16),
     NotOne,

@@ -18,7 +18,7 @@ pub extern "C" fn timing_strings_unchecked(mx: &[u8], my: &[u8], out: &mut [u32]
 
 // A native's string, and whether the native is kept.
 #[repr(C)]
-#[derive(Drop)]
+#[derive(Clone, Copy)]
 pub struct OneNative {
     pub string: u32,
     pub kept: bool,

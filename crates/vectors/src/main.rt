@@ -28,7 +28,7 @@ const PLAN: [[u8; 6]; 6] = [
 // ---- reading the files
 
 // A number, and the place behind the byte that ends it.
-#[derive(Drop)]
+#[derive(Clone, Copy)]
 struct Taken {
     value: u32,
     next: usize,
@@ -244,7 +244,7 @@ fn load(name: &[u8], buffer: &mut [u8]) -> usize
     n
 }
 
-#[derive(Drop)]
+#[derive(Clone, Copy)]
 enum Kind {
     Strings,
     Texts,

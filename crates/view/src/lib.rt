@@ -15,7 +15,7 @@ use pauli_string::{BoolAnswer, PauliString};
 use table::NumberAnswer;
 
 // The view. It is Copy: a read takes it by value.
-#[derive(Drop)]
+#[derive(Clone, Copy)]
 pub struct MeasurementTable<'a> {
     table: &'a [u8],
 }
@@ -65,7 +65,7 @@ impl<'a> MeasurementTable<'a> {
 }
 
 // All that is told of a string.
-#[derive(Drop)]
+#[derive(Clone, Copy)]
 pub struct EntryAnswer {
     pub value: NumberAnswer,
     pub has_entry: BoolAnswer,

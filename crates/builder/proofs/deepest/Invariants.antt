@@ -1,0 +1,18 @@
+-- `builder::deepest` meets its contract: the best so far is the greatest of the depths passed. Assumes nothing.
+use borrow.Author.Rules.{rules}
+use mathlib.Core.Path.{◌≡◌, sym, ap, ◌∙◌}
+use mathlib.Core.Logic.{⊎_elim}
+use Prim.Native.Nat.{ℕ, ◌^◌, ◌-◌, ◌≤◌}
+use native.Mathlib.Omega.{arith}
+use Rattle.bicycle_common.specs.Ranges.{most}
+use Rattle.bicycle_common.proofs.Ranges.{most_none, most_next}
+use Rattle.pauli_string.specs.Strings.{qubits}
+use Rattle.table.specs.Bytes.{entry}
+use Rattle.table.specs.Entries.{depth}
+use Rattle.builder.proofs.deepest.Given as goal
+
+abbrev pub invariant-loop-p : goal.invariant-loop-p
+invariant-loop-p l = (l.p ≤ 4 ^ qubits) × (l.best ≡ most l.p (λ (r : ℕ). depth (entry l.table r)))
+
+abbrev pub decreases-loop-p : goal.decreases-loop-p
+decreases-loop-p l = 4 ^ qubits - l.p

@@ -1,0 +1,10 @@
+-- `digits::wipe` meets its contract: a store keeps the length. Assumes nothing.
+use borrow.Author.Rules.{rules}
+use mathlib.Core.Path.{◌≡◌}
+use Prim.Native.Nat.{◌≤◌, ◌-◌}
+use native.Mathlib.Omega.{arith}
+use lib.ListN.{length, length-set}
+use Rattle.digits.proofs.wipe.Goals as goal
+
+pub loop-j-preserved : goal.loop-j-preserved
+loop-j-preserved c = (omega arith, simp length-set c.loop-j.invariant.1)

@@ -1,0 +1,13 @@
+-- `digits::wipe` meets its contract: a store keeps the length. Assumes nothing.
+use borrow.Author.Rules.{rules}
+use mathlib.Core.Path.{◌≡◌}
+use Prim.Native.Nat.{◌≤◌, ◌-◌}
+use native.Mathlib.Omega.{arith}
+use lib.ListN.{length, length-set}
+use Rattle.digits.proofs.wipe.Given as goal
+
+abbrev pub invariant-loop-j : goal.invariant-loop-j
+invariant-loop-j l = (l.j ≤ 262144) × (length l.filter ≡ 262144)
+
+abbrev pub decreases-loop-j : goal.decreases-loop-j
+decreases-loop-j l = 262144 - l.j

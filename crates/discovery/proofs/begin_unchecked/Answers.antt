@@ -1,0 +1,24 @@
+-- `discovery::begin_unchecked` meets its contract: zeros everywhere, and then one value. Assumes nothing.
+use borrow.Author.Rules.{rules}
+use mathlib.Core.Path.{◌≡◌, sym, ap, ap₂, subst, ◌∙◌}
+use mathlib.Core.Bool.{true}
+use mathlib.Core.List.{List}
+use lib.Dec.{lit<, lit≤}
+use Rattle.pauli_string.specs.Strings.{qubits}
+use Rattle.table.specs.Bytes.{table_length, put, zeros}
+use Rattle.table.specs.Entries.{identity}
+use Rattle.discovery.specs.Model.{state, begun}
+use Rattle.discovery.specs.Short.{strung, noted, Notes}
+use Rattle.discovery.proofs.Short.{strung_noted, strung_zeros, notes_begun}
+use Rattle.discovery.proofs.begin_unchecked.Goals as goal
+
+pub returns : goal.returns
+unfolding begun
+returns c =
+    let k = table_length qubits in
+    let eT : c.put_unchecked.new.0 ≡ put (zeros k) 0 identity =
+    c.put_unchecked.ensures ∙ ap (λ ((goal.at.returns c).After-clear_unchecked : List _). put (goal.at.returns c).After-clear_unchecked 0 identity) (c.clear_unchecked.ensures ∙ ap zeros c.requires.0) in
+    let eQ : c.note.new.0 ≡ noted true (zeros k) 0 = c.note.ensures ∙ ap (λ (l : List _). noted true l 0) (c.clear_unchecked-2.ensures ∙ ap zeros c.requires.1) in (
+      ap₂ (λ ((goal.at.returns c).After-clear_unchecked (goal.at.returns c).After-clear_unchecked-2 : List _). state (goal.at.returns c).After-clear_unchecked (goal.at.returns c).After-clear_unchecked-2 0) eT (ap (strung true) eQ ∙ strung_noted true (zeros k) 0 ∙ strung_zeros k (lit≤ tt)),
+      subst (λ (l : List _). Notes true qubits l c.put_unchecked.new.0) (sym eQ) (subst (λ ((goal.at.returns c).After-clear_unchecked : List _). Notes true qubits (noted true (zeros k) 0) (goal.at.returns c).After-clear_unchecked) (sym eT) (notes_begun qubits k (lit< tt))),
+    )

@@ -1,0 +1,16 @@
+-- `listing::put_head` meets its contract: four pieces, one behind the other. Assumes nothing.
+use native.Mathlib.Omega.{arith}
+use Rattle.text.proofs.Puts.{then}
+use borrow.Author.Rules.{rules}
+use Rattle.listing.proofs.put_head.Goals as goal
+
+slice-aggregate-put-number-line : tie.Need-slice-aggregate-put-number-line
+slice-aggregate-put-number-line c = search rules
+
+slice-aggregate-put-number-line-2 : tie.Need-slice-aggregate-put-number-line-2
+slice-aggregate-put-number-line-2 c = search rules
+
+pub returns : goal.returns
+returns c =
+    let s = c.shifts.ensures in
+    (then (then (then c.put_measures-first.ensures.0 c.put_number_line-second.ensures.0) (rw s.0 at c.put_number_line-third.ensures.0)) c.put_base.ensures.0, omega (arith, c.put_measures-first.ensures.1, c.put_number_line-second.ensures.1, c.put_number_line-third.ensures.1, c.put_base.ensures.1))

@@ -1,0 +1,32 @@
+-- `lookup::front` meets its contract: the front has the length of what was written. Assumes nothing.
+use borrow.Author.Rules.{rules}
+use mathlib.Core.Path.{refl}
+use lib.ListN.{length}
+use Rattle.pauli_string.specs.Strings.{qubits}
+use Rattle.measurement.specs.Matrices.{side}
+use Rattle.lookup.specs.Answers.{Lookup, looked_up}
+use Rattle.lookup.proofs.Written.{Counted, counted, front_is, front_none, front_fits}
+use Rattle.lookup.proofs.front.Goals as goal
+use Rattle.lookup.proofs.front.Goals.{Start}
+
+-- what is asked
+abbrev asked : Start → Lookup
+asked c = looked_up c.args.any qubits side c.args.table.now c.args.mx.now c.args.my.now c.args.p.0 (length c.args.out.now)
+
+holds : (c : Start) → Counted (length c.args.out.now) (asked c)
+holds c = counted c.args.any qubits side c.args.table.now c.args.mx.now c.args.my.now c.args.p.0 (length c.args.out.now)
+
+pub slice_bounds-result-end : goal.slice_bounds-result-end
+slice_bounds-result-end c =
+    let i = c.look_up in
+    front_fits (asked (goal.at.slice_bounds-result-end c).Start) c.args.out.now (holds (goal.at.slice_bounds-result-end c).Start) i.result i.new.1.1.1.1.1.0 i.ensures _ c.in-Is.is
+
+pub returns-in-Is : goal.returns-in-Is
+returns-in-Is c =
+    let i = c.look_up in
+    (front_is (asked (goal.at.returns-in-Is c).Start) c.args.out.now (holds (goal.at.returns-in-Is c).Start) i.result i.new.1.1.1.1.1.0 i.ensures _ c.in-Is.is, refl)
+
+pub returns-in-Refused : goal.returns-in-Refused
+returns-in-Refused c =
+    let i = c.look_up in
+    (front_none (asked (goal.at.returns-in-Refused c).Start) c.args.out.now (holds (goal.at.returns-in-Refused c).Start) i.result i.new.1.1.1.1.1.0 i.ensures _ c.in-Refused.is, refl)

@@ -1,0 +1,19 @@
+-- `measurement::of_bytes` meets its contract: the loop reads one row a turn. Assumes nothing.
+use borrow.Author.Rules.{rules}
+use mathlib.Core.Path.{◌≡◌, refl}
+use mathlib.Core.List.{List, []}
+use Prim.Native.Nat.{ℕ, ◌-◌, ◌<◌}
+use native.Mathlib.Omega.{arith}
+use lib.ListN.{get_or}
+use Rattle.bicycle_common.proofs.Filled.{Filled, filled_none, filled_more, filled_each}
+use Rattle.measurement.specs.Matrices.{of_bytes}
+use Rattle.measurement.proofs.of_bytes.Goals as goal
+
+pub loop-i-init : goal.loop-i-init
+loop-i-init c = filled_none refl
+
+pub loop-i-preserved : goal.loop-i-preserved
+loop-i-preserved c = filled_more c.loop-i.invariant (omega arith) c.row_of.ensures
+
+pub returns : goal.returns
+returns c = λ i k hi hk. filled_each c.loop-i.invariant (omega arith) i hi k hk

@@ -1,0 +1,16 @@
+-- `measurement::of_bytes` meets its contract: the loop reads one row a turn. Assumes nothing.
+use borrow.Author.Rules.{rules}
+use mathlib.Core.Path.{◌≡◌, refl}
+use mathlib.Core.List.{List, []}
+use Prim.Native.Nat.{ℕ, ◌-◌, ◌<◌}
+use native.Mathlib.Omega.{arith}
+use lib.ListN.{get_or}
+use Rattle.bicycle_common.proofs.Filled.{Filled, filled_none, filled_more, filled_each}
+use Rattle.measurement.specs.Matrices.{of_bytes}
+use Rattle.measurement.proofs.of_bytes.Given as goal
+
+abbrev pub invariant-loop-i : goal.invariant-loop-i
+invariant-loop-i l = Filled (λ (t : ℕ) (x : List ℕ). (k : ℕ) → k < 6 → get_or x k 0 ≡ of_bytes 6 l.b t k) [] 6 l.i l.out
+
+abbrev pub decreases-loop-i : goal.decreases-loop-i
+decreases-loop-i l = 6 - l.i

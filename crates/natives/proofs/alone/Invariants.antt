@@ -1,0 +1,17 @@
+-- `natives::alone` meets its contract: the walk passes every greater native of the bucket, so it meets an equal string if there is one; it
+-- ends because a chain ascends. Assumes nothing.
+use borrow.Author.Rules.{rules}
+use mathlib.Core.Path.{◌≡◌, refl, sym, ◌∙◌}
+use Prim.Native.Nat.{◌-◌, ◌<◌, ◌≤◌}
+use native.Mathlib.Omega.{arith}
+use Rattle.natives.specs.Arrays.{at}
+use Rattle.natives.specs.Chains.{bucket}
+use Rattle.natives.proofs.Kept.{not_kept}
+use Rattle.natives.proofs.Chains.{Clear, clear_start, clear_more, clear_kept}
+use Rattle.natives.proofs.alone.Given as goal
+
+abbrev pub invariant-loop-m : goal.invariant-loop-m
+invariant-loop-m l = (l.n < l.m) × (l.m ≤ 540) × (l.v ≡ at l.s l.n) × Clear l.s l.n l.m × (l.m < 540 → bucket l.s l.m ≡ bucket l.s l.n)
+
+abbrev pub decreases-loop-m : goal.decreases-loop-m
+decreases-loop-m l = 540 - l.m

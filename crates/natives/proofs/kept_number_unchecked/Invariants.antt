@@ -1,0 +1,16 @@
+-- `natives::kept_number_unchecked` meets its contract: from the top down, the first string that is x is that of the greatest number. Assumes
+-- nothing.
+use borrow.Author.Rules.{rules}
+use mathlib.Core.Path.{◌≡◌, refl, sym, ap, ◌∙◌}
+use Prim.Native.Nat.{◌≤◌}
+use native.Mathlib.Omega.{arith}
+use Rattle.natives.specs.Kept.{kept_below, kept_for}
+use Rattle.natives.specs.Arrays.{at}
+use Rattle.natives.proofs.Kept.{kept_below_here, kept_below_next, kept_below_none}
+use Rattle.natives.proofs.kept_number_unchecked.Given as goal
+
+abbrev pub invariant-loop-n : goal.invariant-loop-n
+invariant-loop-n l = (l.n ≤ 540) × (kept_for (at l.s) l.x ≡ kept_below (at l.s) l.x l.n)
+
+abbrev pub decreases-loop-n : goal.decreases-loop-n
+decreases-loop-n l = l.n

@@ -1,0 +1,17 @@
+-- `natives::line` meets its contract: the loop writes one cell a turn, and leaves those before the block. Assumes nothing.
+use borrow.Author.Rules.{rules}
+use mathlib.Core.Path.{◌≡◌, refl, sym, ◌∙◌}
+use Prim.Native.Nat.{ℕ, ◌+◌, ◌-◌, ◌*◌, ◌%◌, ◌<◌, ◌≤◌}
+use native.Mathlib.Omega.{arith}
+use lib.ListN.{length, length-set}
+use lib.Seq.{get_or-set_other}
+use Rattle.natives.specs.Arrays.{at}
+use Rattle.natives.specs.Cells.{grid_cell}
+use Rattle.natives.proofs.Cells.{cell_at, stored-from}
+use Rattle.natives.proofs.line.Given as goal
+
+abbrev pub invariant-loop-y : goal.invariant-loop-y
+invariant-loop-y l = (l.y ≤ 6) × (length l.out ≡ 36) × ((t : ℕ) → t < 6 * l.x → at l.out t ≡ at l.initial.out t) × ((j : ℕ) → j < l.y → at l.out (6 * l.x + j) ≡ grid_cell l.cs l.rs (6 * l.x + j))
+
+abbrev pub decreases-loop-y : goal.decreases-loop-y
+decreases-loop-y l = 6 - l.y

@@ -1,0 +1,14 @@
+-- `pauli_string::PauliString::letters` meets its contract: the test decides which case of the answer holds. Assumes nothing.
+use mathlib.Core.List.{List}
+use mathlib.Core.Path.{ap}
+use borrow.Author.Rules.{rules}
+use Rattle.bicycle_common.specs.declared.Outcome.TheVariants.{Done}
+use Rattle.pauli_string.specs.declared.Letter.{Letter}
+use Rattle.pauli_string.proofs.Range.{is_string_law, no_string}
+use Rattle.pauli_string.proofs.PauliString.letters.Goals as goal
+
+pub returns-then-self-lt-STRINGS : goal.returns-then-self-lt-STRINGS
+returns-then-self-lt-STRINGS c = simp (is_string_law 12 _ c.if-self-lt-STRINGS.true) (ap (λ (ls : List Letter). record { outcome = Done; letters = ls }) c.letters_unchecked-letters.ensures)
+
+pub returns : goal.returns
+returns c = simp (no_string 12 _ c.if-self-lt-STRINGS.false)

@@ -1,0 +1,12 @@
+-- `pauli_string::PauliString::zero_pivot` meets its contract: the tests decide which case of the answer holds. Assumes nothing.
+use mathlib.Core.Path.{ap}
+use borrow.Author.Rules.{rules}
+use Rattle.pauli_string.specs.Answers.{string}
+use Rattle.pauli_string.proofs.Range.{is_string_law, no_string}
+use Rattle.pauli_string.proofs.PauliString.zero_pivot.Goals as goal
+
+pub returns-then-self-lt-STRINGS : goal.returns-then-self-lt-STRINGS
+returns-then-self-lt-STRINGS c = simp (is_string_law 12 _ c.if-self-lt-STRINGS.true) (ap string c.zero_pivot_unchecked.ensures)
+
+pub returns : goal.returns
+returns c = simp (no_string 12 _ c.if-self-lt-STRINGS.false)

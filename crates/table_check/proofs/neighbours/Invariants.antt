@@ -1,0 +1,15 @@
+-- `table_check::neighbours` meets its contract: each store leaves those before it as they are. Assumes nothing.
+use borrow.Author.Rules.{rules}
+use mathlib.Core.Path.{◌≡◌, subst}
+use Prim.Native.Nat.{ℕ, ◌≤◌, ◌-◌}
+use native.Mathlib.Omega.{arith}
+use Rattle.pauli_string.specs.Strings.{qubits}
+use Rattle.table_check.specs.Tests.{Neighbours}
+use Rattle.table_check.proofs.Index.{neighbours_more}
+use Rattle.table_check.proofs.neighbours.Given as goal
+
+abbrev pub invariant-loop-i : goal.invariant-loop-i
+invariant-loop-i l = (l.i ≤ l.m) × Neighbours qubits l.p l.rs l.i l.xs
+
+abbrev pub decreases-loop-i : goal.decreases-loop-i
+decreases-loop-i l = l.m - l.i

@@ -1,0 +1,19 @@
+-- `table_check::sink` meets its contract: the end sinks from one nonzero string after another. Assumes nothing.
+use borrow.Author.Rules.{rules}
+use mathlib.Core.List.{List}
+use mathlib.Core.Path.{◌≡◌, subst}
+use Prim.Native.Nat.{ℕ, ◌^◌, ◌≤◌, ◌-◌}
+use native.Mathlib.Omega.{arith}
+use lib.ListN.{length, length-replicate}
+use Rattle.pauli_string.specs.Strings.{qubits}
+use Rattle.native_measurement.specs.Natives.{natives}
+use Rattle.table.specs.Bytes.{entry}
+use Rattle.table_check.specs.Tests.{PackedIn, Least, Blamed}
+use Rattle.table_check.proofs.Least.{blamed_none, blamed_more}
+use Rattle.table_check.proofs.sink.Given as goal
+
+abbrev pub invariant-loop-x : goal.invariant-loop-x
+invariant-loop-x l = (1 ≤ l.x) × (l.x ≤ 4 ^ qubits) × (length l.xs ≡ natives) × Sunk l.table l.rs l.m l.top l.x l.end l.r
+
+abbrev pub decreases-loop-x : goal.decreases-loop-x
+decreases-loop-x l = 4 ^ qubits - l.x

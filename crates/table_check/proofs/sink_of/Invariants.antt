@@ -1,0 +1,15 @@
+-- `table_check::sink_of` meets its contract: the end sinks string by string. Assumes nothing.
+use borrow.Author.Rules.{rules}
+use mathlib.Core.Path.{◌≡◌, subst}
+use Prim.Native.Nat.{ℕ, ◌≤◌, ◌-◌}
+use native.Mathlib.Omega.{arith}
+use Rattle.table.specs.Bytes.{entry}
+use Rattle.table_check.specs.Tests.{Least, High}
+use Rattle.table_check.proofs.Least.{high_none, high_more}
+use Rattle.table_check.proofs.sink_of.Given as goal
+
+abbrev pub invariant-loop-i : goal.invariant-loop-i
+invariant-loop-i l = (l.i ≤ l.m) × Least (High (entry l.table) l.h l.xs l.i) l.end l.r
+
+abbrev pub decreases-loop-i : goal.decreases-loop-i
+decreases-loop-i l = l.m - l.i
