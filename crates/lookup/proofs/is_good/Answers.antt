@@ -38,10 +38,11 @@ entry_unchecked-v-requires-in-loop-k c =
     (next_inside c.loop-k.invariant.0 (shown_lt c.args.cells.now) c.next-at.ensures, c.requires.0)
 
 pub loop-k-preserved : goal.loop-k-preserved
-loop-k-preserved c = (
-  place_next c.loop-k.invariant.0 (shown_lt c.args.cells.now) c.next-at.ensures c.loop-k-test.true c.entry_unchecked-v-in-loop-k.ensures,
-  stood_next c.loop-k.invariant.0 c.loop-k.invariant.1 (sym c.stands.ensures ∙ not-false _ c.if-not-stands.false-raw),
-)
+loop-k-preserved c =
+    (
+      place_next c.loop-k.invariant.0 (shown_lt c.args.cells.now) c.next-at.ensures c.loop-k-test.true c.entry_unchecked-v-in-loop-k.ensures,
+      stood_next c.loop-k.invariant.0 c.loop-k.invariant.1 (sym c.stands.ensures ∙ not-false _ c.if-not-stands.false-raw),
+    )
 
 pub stands-requires-2 : goal.stands-requires-2
 stands-requires-2 c = c.requires.2

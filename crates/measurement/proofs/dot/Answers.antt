@@ -11,7 +11,7 @@ use Rattle.measurement.proofs.dot.Goals as goal
 use Rattle.measurement.proofs.dot.Goals.{After-y-1}
 
 -- both numbers are 0 or 1
-small : (c : After-y-1 invariant-loop decreases-loop)
+small : (c : After-y-1)
     → let j = c.loop-j.j in
     of_rows c.args.a c.args.i j * of_rows c.args.b j c.args.k ≤ 1
 small c =

@@ -13,10 +13,6 @@ use Rattle.moves.proofs.Moves.{gather_more}
 use Rattle.moves.proofs.gather_unchecked.Goals as goal
 use Rattle.moves.proofs.gather_unchecked.Goals.{At-loop-i}
 
--- the transposed of p
-abbrev turned : ℕ → ℕ
-turned p = p % 2 ^ qubits * 2 ^ qubits + p / 2 ^ qubits
-
 pub odds-requires : goal.odds-requires
 odds-requires c =
     (c.requires.1.long_g, c.requires.2.few, c.requires.2.small)
@@ -31,7 +27,7 @@ loop-i-init c =
     )
 
 -- what the place tells is the parity of the clashes
-told : (c : At-loop-i invariant-loop decreases-loop) → c.loop-i.i < c.args.m → at c.loop-i.gs c.loop-i.i ≡ clashes qubits c.args.p (at c.args.rs.now c.loop-i.i) qubits % 2
+told : (c : At-loop-i) → c.loop-i.i < c.args.m → at c.loop-i.gs c.loop-i.i ≡ clashes qubits c.args.p (at c.args.rs.now c.loop-i.i) qubits % 2
 told c h =
     c.loop-i.invariant.2 c.loop-i.i (omega arith) h ∙ count_law qubits c.args.p (at c.args.rs.now c.loop-i.i) c.requires.0 (c.requires.2.small c.loop-i.i)
 

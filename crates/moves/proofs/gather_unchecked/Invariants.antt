@@ -12,6 +12,10 @@ use Rattle.moves.specs.Moves.{none, Odds, Gathered}
 use Rattle.moves.proofs.Moves.{gather_more}
 use Rattle.moves.proofs.gather_unchecked.Given as goal
 
+-- the transposed of p
+abbrev pub turned : ℕ → ℕ
+turned p = p % 2 ^ qubits * 2 ^ qubits + p / 2 ^ qubits
+
 abbrev pub invariant-loop-i : goal.invariant-loop-i
 invariant-loop-i l = (l.i ≤ l.m) × Gathered qubits l.p l.rs l.ns l.i l.xs l.gs l.k × Odds (turned l.p) l.rs l.i l.m l.gs
 

@@ -19,10 +19,10 @@ use Rattle.search.proofs.Scans.{Scanned, scan_starts, scan_next, scan_reaches}
 use Rattle.search.proofs.scan.Goals as goal
 use Rattle.search.proofs.scan.Goals.{After-entry_unchecked-p, At-loop-i}
 
-below : (c : At-loop-i invariant-loop decreases-loop) → c.loop-i.c < 4 ^ qubits
+below : (c : At-loop-i) → c.loop-i.c < 4 ^ qubits
 below c = count_below qubits (state c.loop-i.table (strung c.args.short c.loop-i.queue) c.loop-i.c) c.loop-i.invariant.2.good
 
-long : (c : At-loop-i invariant-loop decreases-loop) → length c.loop-i.queue ≡ 67108864
+long : (c : At-loop-i) → length c.loop-i.queue ≡ 67108864
 long c = sym (length_strung c.args.short c.loop-i.queue) ∙ c.loop-i.invariant.2.good.queue_long
 
 pub loop-i-init : goal.loop-i-init
@@ -45,7 +45,7 @@ refresh_unchecked-since-requires c =
     (c.loop-i.invariant.2.good.table_long, c.requires.scratch.1.few, c.requires.scratch.1.small, c.loop-i.invariant.2.since_low, c.loop-i.invariant.2.covers)
 
 -- the string at the place, read from the queue with its digits
-read : (c : After-entry_unchecked-p invariant-loop decreases-loop)
+read : (c : After-entry_unchecked-p)
     → c.entry_unchecked-p.result ≡ entry (strung c.args.short c.loop-i.queue) c.loop-i.i
 read c =
     let short = c.args.short in
@@ -53,15 +53,16 @@ read c =
     ∙ sym (strung_entry short c.loop-i.queue c.loop-i.c c.loop-i.i (omega (arith, long c.After-slice_known-2-1)) (room_less short c.loop-i.c c.loop-i.c 0 natives (c.is_full.ensures.0 c.if-is_full.false) (omega arith)) c.loop-i-test.true)
 
 pub visit-c-requires : goal.visit-c-requires
-visit-c-requires c = (
-  (
-    c.loop-i.invariant.2.scratch,
-    c.requires.scratch.1,
-    c.refresh_unchecked-since.ensures.1,
-    listed_moving qubits (state c.loop-i.table (strung c.args.short c.loop-i.queue) c.loop-i.c) c.loop-i.i c.entry_unchecked-p.result c.loop-i.invariant.2.good c.loop-i-test.true (read (goal.at.visit-c-requires c).After-is_full),
-  ),
-  (c.loop-i.invariant.3, c.is_full.ensures.0 c.if-is_full.false),
-)
+visit-c-requires c =
+    (
+      (
+        c.loop-i.invariant.2.scratch,
+        c.requires.scratch.1,
+        c.refresh_unchecked-since.ensures.1,
+        listed_moving qubits (state c.loop-i.table (strung c.args.short c.loop-i.queue) c.loop-i.c) c.loop-i.i c.entry_unchecked-p.result c.loop-i.invariant.2.good c.loop-i-test.true (read (goal.at.visit-c-requires c).After-is_full),
+      ),
+      (c.loop-i.invariant.3, c.is_full.ensures.0 c.if-is_full.false),
+    )
 
 pub overflow_add-i : goal.overflow_add-i
 overflow_add-i c =

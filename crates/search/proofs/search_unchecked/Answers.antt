@@ -30,15 +30,16 @@ clear_from-requires c =
     omega (arith, length_strung true c.scan-first.new.1.0, c.scan-first.ensures.2.good.queue_long)
 
 pub scan-last-requires : goal.scan-last-requires
-scan-last-requires c = (
-  (
-    c.scan-first.ensures.0,
-    c.pack_unchecked-m.ensures.rotations,
-    c.scan-first.ensures.1,
-    subst (λ (l : List _). Good qubits (state c.scan-first.new.0 l c.scan-first.result.count)) (sym c.clear_from.ensures) c.scan-first.ensures.2.good,
-  ),
-  (notes_long qubits c.clear_from.new.0 c.scan-first.new.0, c.scan-first.ensures.2.place),
-)
+scan-last-requires c =
+    (
+      (
+        c.scan-first.ensures.0,
+        c.pack_unchecked-m.ensures.rotations,
+        c.scan-first.ensures.1,
+        subst (λ (l : List _). Good qubits (state c.scan-first.new.0 l c.scan-first.result.count)) (sym c.clear_from.ensures) c.scan-first.ensures.2.good,
+      ),
+      (notes_long qubits c.clear_from.new.0 c.scan-first.new.0, c.scan-first.ensures.2.place),
+    )
 
 pub returns : goal.returns
 returns c =

@@ -14,7 +14,7 @@ use Rattle.table.specs.Bytes.{entry}
 use Rattle.table.proofs.len_unchecked.Goals as goal
 use Rattle.table.proofs.len_unchecked.Goals.{After-some-n}
 
-counted : (c : After-some-n invariant-loop decreases-loop) → c.some-n.result ≡ labelled (entry c.args.table.now) c.loop-p.p
+counted : (c : After-some-n) → c.some-n.result ≡ labelled (entry c.args.table.now) c.loop-p.p
 counted c = c.some-n.ensures ∙ ap (λ (v : ℕ). flag (not (eqb v 0))) c.entry_unchecked.ensures
 
 pub loop-p-init : goal.loop-p-init

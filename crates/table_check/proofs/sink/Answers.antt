@@ -11,10 +11,7 @@ use Rattle.table.specs.Bytes.{entry}
 use Rattle.table_check.specs.Tests.{PackedIn, Least, Blamed}
 use Rattle.table_check.proofs.Least.{blamed_none, blamed_more}
 use Rattle.table_check.proofs.sink.Goals as goal
-
--- r is the lowest string blamed from below k, whatever the natives whose rotations are packed
-abbrev Sunk : List ℕ → List ℕ → ℕ → ℕ → ℕ → ℕ → ℕ → Type 0
-Sunk t rs m top k end r = (f : ℕ → ℕ) → PackedIn qubits f rs m → Least (Blamed qubits f (entry t) top k) end r
+use Rattle.table_check.proofs.sink.Invariants.{Sunk}
 
 pub loop-x-init : goal.loop-x-init
 loop-x-init c =

@@ -12,6 +12,10 @@ use Rattle.table_check.specs.Tests.{PackedIn, Least, Blamed}
 use Rattle.table_check.proofs.Least.{blamed_none, blamed_more}
 use Rattle.table_check.proofs.sink.Given as goal
 
+-- r is the lowest string blamed from below k, whatever the natives whose rotations are packed
+abbrev pub Sunk : List ℕ → List ℕ → ℕ → ℕ → ℕ → ℕ → ℕ → Type 0
+Sunk t rs m top k end r = (f : ℕ → ℕ) → PackedIn qubits f rs m → Least (Blamed qubits f (entry t) top k) end r
+
 abbrev pub invariant-loop-x : goal.invariant-loop-x
 invariant-loop-x l = (1 ≤ l.x) × (l.x ≤ 4 ^ qubits) × (length l.xs ≡ natives) × Sunk l.table l.rs l.m l.top l.x l.end l.r
 

@@ -18,11 +18,11 @@ use Rattle.pauli_string.proofs.PauliString.from_letters.Goals as goal
 use Rattle.pauli_string.proofs.PauliString.from_letters.Goals.{At-loop-i}
 
 -- so both fit in twelve bits
-x-small : (c : At-loop-i invariant-loop decreases-loop) → c.loop-i.x < 4096
+x-small : (c : At-loop-i) → c.loop-i.x < 4096
 x-small c =
     subst (λ (n : ℕ). n < 4096) (sym c.loop-i.invariant.2) (number_small x_of x_of_lt c.args.value 12 c.loop-i.i c.loop-i.invariant.1)
 
-z-small : (c : At-loop-i invariant-loop decreases-loop) → c.loop-i.z < 4096
+z-small : (c : At-loop-i) → c.loop-i.z < 4096
 z-small c =
     subst (λ (n : ℕ). n < 4096) (sym c.loop-i.invariant.3) (number_small z_of z_of_lt c.args.value 12 c.loop-i.i c.loop-i.invariant.1)
 

@@ -12,13 +12,7 @@ use Rattle.pauli_string.specs.Text.{letters}
 use Rattle.pauli_string.specs.declared.Letter.{Letter}
 use Rattle.pauli_string.proofs.Text.{length_letters, letters_at}
 use Rattle.pauli_string.proofs.PauliString.letters_unchecked.Goals as goal
-
-abbrev wrap : Pauli → Letter
-wrap l = record { 0 = l }
-
--- what the array is to hold
-abbrev held : ℕ → List Letter
-held p = map wrap (letters 12 p)
+use Rattle.pauli_string.proofs.PauliString.letters_unchecked.Invariants.{wrap}
 
 pub loop-i-init : goal.loop-i-init
 loop-i-init c = filled_none refl

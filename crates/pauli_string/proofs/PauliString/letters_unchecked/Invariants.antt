@@ -13,6 +13,13 @@ use Rattle.pauli_string.specs.declared.Letter.{Letter}
 use Rattle.pauli_string.proofs.Text.{length_letters, letters_at}
 use Rattle.pauli_string.proofs.PauliString.letters_unchecked.Given as goal
 
+abbrev pub wrap : Pauli → Letter
+wrap l = record { 0 = l }
+
+-- what the array is to hold
+abbrev pub held : ℕ → List Letter
+held p = map wrap (letters 12 p)
+
 abbrev pub invariant-loop-i : goal.invariant-loop-i
 invariant-loop-i l = Filled (λ (t : ℕ) (x : Letter). x ≡ get_or (held l.self.0) t (wrap I)) (wrap I) 12 l.i l.out
 
