@@ -17,7 +17,7 @@ returns-then-any c =
     let a = c.args in
     let f = shown a.cells.now in
     let e = entry a.table.now in
-    c.All-sound.ensures
+    c.all_sound.ensures
     ∙ of_three (all_sound qubits f e) c.candidate-x.ensures.0 c.candidate-z.ensures.0 c.candidate-y.ensures.0
     ∙ ap (λ (b : Bool). judged b qubits f e a.p) (sym c.if-any.true)
 

@@ -3,7 +3,7 @@ use borrow.Author.Rules.{rules}
 use mathlib.Core.Path.{◌≡◌, refl, ◌∙◌}
 use Prim.Native.Nat.{ℕ, ◌-◌}
 use native.Mathlib.Omega.{arith}
-use Rattle.bicycle_common.proofs.Ranges.{listed-all}
+use Rattle.bicycle_common.proofs.Ranges.{listed_all}
 use Rattle.bicycle_common.proofs.Filled.{Filled, filled_none, filled_more, filled_each}
 use Rattle.measurement.specs.Matrices.{of_rows}
 use Rattle.measurement.specs.Measures.{action}

@@ -3,7 +3,7 @@ use borrow.Author.Rules.{rules}
 use mathlib.Core.Path.{◌≡◌, refl, ◌∙◌}
 use Prim.Native.Nat.{ℕ, ◌-◌}
 use native.Mathlib.Omega.{arith}
-use Rattle.bicycle_common.proofs.Ranges.{listed-all}
+use Rattle.bicycle_common.proofs.Ranges.{listed_all}
 use Rattle.bicycle_common.proofs.Filled.{Filled, filled_none, filled_more, filled_each}
 use Rattle.measurement.specs.Matrices.{of_rows}
 use Rattle.measurement.specs.Measures.{action}
@@ -19,5 +19,5 @@ pub returns : goal.returns
 returns c =
     let w = c.loop-j in
     let g = c.args in
-    listed-all (λ (t : ℕ). action 6 (of_rows g.mx) (of_rows g.my) g.a 0 t) 0 w.out 6 w.invariant.long
+    listed_all (λ (t : ℕ). action 6 (of_rows g.mx) (of_rows g.my) g.a 0 t) 0 w.out 6 w.invariant.long
     (λ t h. filled_each w.invariant (omega arith) t h ∙ c.action-m.ensures 0 t (omega arith) h)

@@ -8,7 +8,7 @@ use lib.ListN.{length, length-set}
 use lib.Seq.{get_or-set_other}
 use Rattle.natives.specs.Arrays.{at}
 use Rattle.natives.specs.Cells.{mask}
-use Rattle.natives.proofs.Cells.{stored-from}
+use Rattle.natives.proofs.Cells.{stored_from}
 use Rattle.natives.proofs.block.Goals as goal
 
 pub loop-k-init : goal.loop-k-init
@@ -21,7 +21,7 @@ loop-k-preserved c =
       search rules,
       simp length-set (omega arith),
       λ t h. get_or-set_other w.out (15 * g.a + w.k) t _ 0 (λ e. omega arith) ∙ w.invariant.2 t h,
-      stored-from (λ (j x : ℕ). x ≡ bit_and g.cell (mask j)) w.out 0 (15 * g.a) w.k _ (omega arith) w.invariant.3 (ap (bit_and g.cell) c.mask.ensures),
+      stored_from (λ (j x : ℕ). x ≡ bit_and g.cell (mask j)) w.out 0 (15 * g.a) w.k _ (omega arith) w.invariant.3 (ap (bit_and g.cell) c.mask.ensures),
     )
 
 pub returns : goal.returns

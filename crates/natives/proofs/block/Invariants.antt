@@ -8,7 +8,7 @@ use lib.ListN.{length, length-set}
 use lib.Seq.{get_or-set_other}
 use Rattle.natives.specs.Arrays.{at}
 use Rattle.natives.specs.Cells.{mask}
-use Rattle.natives.proofs.Cells.{stored-from}
+use Rattle.natives.proofs.Cells.{stored_from}
 use Rattle.natives.proofs.block.Given as goal
 
 abbrev pub invariant-loop-k : goal.invariant-loop-k

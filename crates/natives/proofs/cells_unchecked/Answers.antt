@@ -31,7 +31,7 @@ marked-requires c =
 pub returns : goal.returns
 returns c =
     let g = c.args in
-    let rx = c.rows_of_lem in
+    let rx = c.rows_of-rx in
     let ry = c.rows_of-ry in
     let cx = c.columns_of-cx in
     let cy = c.columns_of-cy in

@@ -10,7 +10,7 @@ use Rattle.bicycle_common.proofs.Ranges.{listed_all}
 use Rattle.natives.specs.Kept.{kept}
 use Rattle.natives.specs.Arrays.{at}
 use Rattle.natives.specs.Chains.{bucket, Next, Linked, Heads}
-use Rattle.natives.proofs.Chains.{stored-down, heads_more, heads_start}
+use Rattle.natives.proofs.Chains.{stored_down, heads_more, heads_start}
 use Rattle.natives.proofs.kept_flags_unchecked.Goals as goal
 
 pub loop-n-init : goal.loop-n-init
@@ -40,10 +40,10 @@ loop-n-preserved c =
       simp length-set (omega arith),
       simp length-set (omega arith),
       simp length-set (omega arith),
-      stored-down (λ (t x : ℕ). Next f (f t) (t + 1) x) w.next 0 k _ (omega arith) (subst (λ (x : ℕ). Linked f w.next x) e w.invariant.4)
+      stored_down (λ (t x : ℕ). Next f (f t) (t + 1) x) w.next 0 k _ (omega arith) (subst (λ (x : ℕ). Linked f w.next x) e w.invariant.4)
           (heads (f k) (omega arith)),
       heads_more f w.head k (omega arith) (omega arith) heads,
-      stored-down (λ (t : ℕ) (x : Bool). x ≡ kept (at s) t) w.out false k _ (omega arith) (λ t a b. w.invariant.6 t (omega arith) b) c.alone.ensures,
+      stored_down (λ (t : ℕ) (x : Bool). x ≡ kept (at s) t) w.out false k _ (omega arith) (λ t a b. w.invariant.6 t (omega arith) b) c.alone.ensures,
     )
 
 pub returns : goal.returns

@@ -10,7 +10,7 @@ use Rattle.bicycle_common.proofs.Ranges.{listed_all}
 use Rattle.natives.specs.Kept.{kept}
 use Rattle.natives.specs.Arrays.{at}
 use Rattle.natives.specs.Chains.{bucket, Next, Linked, Heads}
-use Rattle.natives.proofs.Chains.{stored-down, heads_more, heads_start}
+use Rattle.natives.proofs.Chains.{stored_down, heads_more, heads_start}
 use Rattle.natives.proofs.kept_flags_unchecked.Given as goal
 
 abbrev pub invariant-loop-n : goal.invariant-loop-n

@@ -7,7 +7,7 @@ use lib.ListN.{length, length-set}
 use lib.Seq.{get_or-set_other}
 use Rattle.natives.specs.Arrays.{at}
 use Rattle.natives.specs.Cells.{grid_cell}
-use Rattle.natives.proofs.Cells.{cell_at, stored-from}
+use Rattle.natives.proofs.Cells.{cell_at, stored_from}
 use Rattle.natives.proofs.line.Goals as goal
 
 pub loop-y-init : goal.loop-y-init
@@ -31,7 +31,7 @@ loop-y-preserved c =
       search rules,
       simp length-set (omega arith),
       λ t l. get_or-set_other w.out (6 * g.x + w.y) t _ 0 (λ e. omega arith) ∙ w.invariant.2 t l,
-      stored-from (λ (j v : ℕ). v ≡ grid_cell g.cs g.rs (6 * g.x + j)) w.out 0 (6 * g.x) w.y _ (omega arith) w.invariant.3
+      stored_from (λ (j v : ℕ). v ≡ grid_cell g.cs g.rs (6 * g.x + j)) w.out 0 (6 * g.x) w.y _ (omega arith) w.invariant.3
           (c.place.ensures ∙ cell_at g.cs g.rs g.x w.y h (omega arith)),
     )
 

@@ -7,7 +7,7 @@ use lib.ListN.{length, length-set}
 use lib.Seq.{get_or-set_other}
 use Rattle.natives.specs.Arrays.{at}
 use Rattle.natives.specs.Cells.{grid_cell}
-use Rattle.natives.proofs.Cells.{cell_at, stored-from}
+use Rattle.natives.proofs.Cells.{cell_at, stored_from}
 use Rattle.natives.proofs.line.Given as goal
 
 abbrev pub invariant-loop-y : goal.invariant-loop-y
