@@ -16,16 +16,16 @@ use Rattle.natives.proofs.kept_flags_unchecked.Goals as goal
 pub loop-n-init : goal.loop-n-init
 loop-n-init c = (search rules, refl, refl, refl, λ m a b. absurd (omega arith), heads_start (bucket c.args.s.now), λ t a b. absurd (omega arith))
 
-pub alone-requires : goal.alone-requires
-alone-requires c =
+pub alone-requires-clause-s_len : goal.alone-requires-clause-s_len
+alone-requires-clause-s_len c = (c.requires, c.loop-n.invariant.2, search rules)
+
+pub alone-requires-clause-linked : goal.alone-requires-clause-linked
+alone-requires-clause-linked c =
     let f = bucket c.args.s.now in
     let w = c.loop-n in
     let e : w.n ≡ w.n - 1 + 1 = omega arith in (
-      (c.requires, w.invariant.2, search rules),
-      (
-        subst (λ (x : ℕ). Linked f w.next x) e w.invariant.4,
-        subst (λ (x : ℕ). Heads f w.head x) e w.invariant.5 (f (w.n - 1)) (omega arith),
-      ),
+      subst (λ (x : ℕ). Linked f w.next x) e w.invariant.4,
+      subst (λ (x : ℕ). Heads f w.head x) e w.invariant.5 (f (w.n - 1)) (omega arith),
     )
 
 pub loop-n-preserved : goal.loop-n-preserved
