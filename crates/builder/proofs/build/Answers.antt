@@ -29,7 +29,8 @@ returns-then-not-is_matrix-2 c =
 
 pub build_pair-requires : goal.build_pair-requires
 build_pair-requires c =
-    ((c.if-table-ne-TABLE_LENGTH.false, c.if-queue-ne-TABLE_LENGTH.false), (sym c.is_matrix.ensures ∙ not-false _ c.if-not-is_matrix.false-raw, sym c.is_matrix-2.ensures ∙ not-false _ c.if-not-is_matrix-2.false-raw))
+    record { table_len = (c.if-table-ne-TABLE_LENGTH.false, c.if-queue-ne-TABLE_LENGTH.false); mx_value = (sym c.is_matrix.ensures ∙ not-false _ c.if-not-is_matrix.false-raw, sym c.is_matrix-2.ensures ∙ not-false _ c.if-not-is_matrix-2.false-raw) }
+
 
 pub returns : goal.returns
 returns c =

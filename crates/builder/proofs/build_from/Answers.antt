@@ -17,7 +17,7 @@ use Rattle.builder.proofs.build_from.Goals.{After-search_unchecked-c}
 
 -- after the search the state is the model's
 searched : (c : After-search_unchecked-c)
-    → state c.search_unchecked-c.new.0 c.search_unchecked-c.new.1.0 c.search_unchecked-c.result ≡ built qubits (at c.args.strings.now)
+    → state c.search_unchecked-c.new.table c.search_unchecked-c.new.queue c.search_unchecked-c.result ≡ built qubits (at c.args.strings.now)
 unfolding built
 searched c = c.search_unchecked-c.ensures ∙ ap (in_turn (4 ^ qubits) (expand qubits (at c.args.strings.now))) c.seeds_unchecked-n.ensures.0
 
@@ -26,13 +26,14 @@ searched-good c = built_good qubits twelve (at c.args.strings.now) c.requires.he
 
 pub search_unchecked-c-requires : goal.search_unchecked-c-requires
 search_unchecked-c-requires c =
-    (c.requires.held, (subst (Good qubits) (sym c.seeds_unchecked-n.ensures.0) (seeded_good qubits twelve (at c.args.strings.now) c.requires.held.0.small), c.seeds_unchecked-n.ensures.1))
+    record { held = c.requires.held; good = (subst (Good qubits) (sym c.seeds_unchecked-n.ensures.0) (seeded_good qubits twelve (at c.args.strings.now) c.requires.held.0.small), c.seeds_unchecked-n.ensures.1) }
+
 
 pub overflow_add-result : goal.overflow_add-result
 overflow_add-result c =
-    let w = state c.search_unchecked-c.new.0 c.search_unchecked-c.new.1.0 c.search_unchecked-c.result in
-    omega (arith, count_below qubits w (subst (Good qubits) (sym (searched (goal.at.overflow_add-result c).After-search_unchecked-arg-2-1)) (searched-good (goal.at.overflow_add-result c).After-search_unchecked-arg-2-1)))
+    let w = state c.search_unchecked-c.new.table c.search_unchecked-c.new.queue c.search_unchecked-c.result in
+    omega (arith, count_below qubits w (subst (Good qubits) (sym (searched (goal.at.overflow_add-result c).After-search_unchecked-arg-2-1)) (searched-good (goal.at.overflow_add-result c).After-search_unchecked-c)))
 
 pub returns : goal.returns
 returns c =
-    built_outcome qubits c.search_unchecked-c.new.0 c.search_unchecked-c.new.1.0 c.search_unchecked-c.result c.deepest-d.result (built qubits (at c.args.strings.now)) (searched (goal.at.returns c).After-search_unchecked-arg-2-1) (searched-good (goal.at.returns c).After-search_unchecked-arg-2-1) c.deepest-d.ensures
+    built_outcome qubits c.search_unchecked-c.new.table c.search_unchecked-c.new.queue c.search_unchecked-c.result c.deepest-d.result (built qubits (at c.args.strings.now)) (searched (goal.at.returns c).After-search_unchecked-arg-2-1) (searched-good (goal.at.returns c).After-search_unchecked-c) c.deepest-d.ensures

@@ -14,7 +14,8 @@ pub build_from-requires : goal.build_from-requires
 build_from-requires c =
     let a = c.args in
     let r = c.natives_unchecked-held in
-    (c.requires.table_len, (natives_held a.mx.now a.my.now r.result r.ensures, natives_flagged a.mx.now a.my.now r.result r.ensures))
+    record { table_len = c.requires.table_len; held = (natives_held a.mx.now a.my.now r.result r.ensures, natives_flagged a.mx.now a.my.now r.result r.ensures) }
+
 
 pub returns : goal.returns
 returns c =

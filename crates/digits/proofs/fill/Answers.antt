@@ -21,7 +21,7 @@ loop-z-preserved c =
     let a = c.args in (
       omega arith,
       c.mark_new.ensures.0,
-      filled_more qubits a.rs.now a.m c.loop-z.filter c.mark_new.new.1.1.1.1.0 a.table.now c.loop-z.z c.mark_new.ensures.1 c.mark_new.ensures.2 c.loop-z.invariant.2,
+      filled_more qubits a.rs.now a.m c.loop-z.filter c.mark_new.new.filter a.table.now c.loop-z.z c.mark_new.ensures.1 c.mark_new.ensures.2 c.loop-z.invariant.2,
     )
 
 pub returns : goal.returns

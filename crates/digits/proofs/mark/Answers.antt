@@ -20,7 +20,7 @@ rotate_unchecked-x-requires c =
 pub loop-i-preserved : goal.loop-i-preserved
 loop-i-preserved c =
     let a = c.args in
-    let g = c.set_bucket.new.1.0 in
+    let g = c.set_bucket.new.filter in
     let o : bucket g (rotate qubits a.z (at a.rs.now c.loop-i.i)) ≡ 1 =
     subst (λ (x : ℕ). bucket g x ≡ 1) c.rotate_unchecked-x.ensures c.set_bucket.ensures.2 in (
       omega arith,

@@ -60,6 +60,6 @@ pub returns : goal.returns
 unfolding value
 returns c =
     let a = c.args in
-    found_new a.short qubits twelve a.table.now a.queue.now a.count a.x a.depth a.n c.requires.good.0 c.requires.good.1 c.put_unchecked.new.0 c.note.new.0
+    found_new a.short qubits twelve a.table.now a.queue.now a.count a.x a.depth a.n c.requires.good.0 c.requires.good.1 c.put_unchecked.new.table c.note.new.queue
     (omega (arith, long (goal.at.returns c).Start, c.requires.good.1.small)) c.requires.notes.1 c.requires.notes.0 (c.has.ensures.1 c.if-has.false) c.put_unchecked.ensures
     (c.note.ensures ∙ ap (λ (l : List _). noted a.short l a.x) c.put_unchecked-2.ensures)

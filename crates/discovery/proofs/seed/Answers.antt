@@ -22,17 +22,16 @@ overflow_cast-k c =
     omega (arith, c.kept_number_unchecked-k.ensures, (keeper_for (at c.args.strings.now) c.args.n c.requires.n_lt_natives.0).below)
 
 pub discover_unchecked-requires : goal.discover_unchecked-requires
-discover_unchecked-requires c = (
-  (
+discover_unchecked-requires c =
+    record { good = (
     c.requires.good.0,
     record {
       small = c.requires.n_lt_natives.1.small c.args.n;
       native_below = omega (arith, c.requires.n_lt_natives.0, c.kept_number_unchecked-k.ensures, (keeper_for (at c.args.strings.now) c.args.n c.requires.n_lt_natives.0).below);
       low = omega arith;
     },
-  ),
-  (c.requires.good.1, c.requires.good.2),
-)
+  ); notes = (c.requires.good.1, c.requires.good.2) }
+
 
 pub returns : goal.returns
 returns c =

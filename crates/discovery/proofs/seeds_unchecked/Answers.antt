@@ -22,7 +22,8 @@ loop-n-init c =
 
 pub seed-c-requires : goal.seed-c-requires
 seed-c-requires c =
-    ((c.loop-n-test.true, c.requires.held), (c.loop-n.invariant.3, c.loop-n.invariant.6, λ e. omega (arith, c.loop-n.invariant.5, c.loop-n-test.true)))
+    record { n_lt_natives = (c.loop-n-test.true, c.requires.held); good = (c.loop-n.invariant.3, c.loop-n.invariant.6, λ e. omega (arith, c.loop-n.invariant.5, c.loop-n-test.true)) }
+
 
 pub loop-n-preserved : goal.loop-n-preserved
 loop-n-preserved c =

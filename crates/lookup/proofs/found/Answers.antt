@@ -43,7 +43,8 @@ returns-then-out-needed c =
 
 pub write_rotations-bottom-requires : goal.write_rotations-bottom-requires
 write_rotations-bottom-requires c =
-    (c.requires.table_len, (ap depth c.entry_unchecked-d.ensures, c.if-out-needed.false, c.requires.p_value))
+    record { table_len = c.requires.table_len; d_value = (ap depth c.entry_unchecked-d.ensures, c.if-out-needed.false, c.requires.p_value) }
+
 
 pub entry_unchecked-requires : goal.entry_unchecked-requires
 entry_unchecked-requires c =
@@ -59,7 +60,7 @@ returns c =
     let p = c.args.p in
     let l = c.args.out.now in
     let d : c.entry_unchecked-d.result / 1024 ≡ depth (e (goal.at.returns c).Start p) = ap depth c.entry_unchecked-d.ensures in
-    subst (λ (o : Lookup). Leaves o l (plan_by c.write_rotations-bottom.result (named c.entry_unchecked.result) (c.entry_unchecked-d.result / 1024) p (rotations qubits (f (goal.at.returns c).Start) (e (goal.at.returns c).Start) p)).answer c.write_rotations-bottom.new.1.1.1.1.0)
+    subst (λ (o : Lookup). Leaves o l (plan_by c.write_rotations-bottom.result (named c.entry_unchecked.result) (c.entry_unchecked-d.result / 1024) p (rotations qubits (f (goal.at.returns c).Start) (e (goal.at.returns c).Start) p)).answer c.write_rotations-bottom.new.out)
     (sym (found_fits qubits (f (goal.at.returns c).Start) (e (goal.at.returns c).Start) p (length l) (omega (arith, c.if-out-needed.false))))
-    (plans qubits (f (goal.at.returns c).Start) (e (goal.at.returns c).Start) p c.write_rotations-bottom.result (named c.entry_unchecked.result) (c.entry_unchecked-d.result / 1024) l c.write_rotations-bottom.new.1.1.1.1.0
+    (plans qubits (f (goal.at.returns c).Start) (e (goal.at.returns c).Start) p c.write_rotations-bottom.result (named c.entry_unchecked.result) (c.entry_unchecked-d.result / 1024) l c.write_rotations-bottom.new.out
     c.write_rotations-bottom.ensures.0 (ap named c.entry_unchecked.ensures) d c.write_rotations-bottom.ensures.1)

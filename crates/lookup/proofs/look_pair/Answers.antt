@@ -26,11 +26,12 @@ returns-then-is_missing c =
 
 pub look_sought-requires : goal.look_sought-requires
 look_sought-requires c =
-    ((c.requires.table_len.0, c.requires.table_len.1, c.cells_unchecked-cells.ensures.0), sym c.is_missing.ensures ∙ c.if-is_missing.false)
+    record { table_len = (c.requires.table_len.0, c.requires.table_len.1, c.cells_unchecked-cells.ensures.0); p_value = sym c.is_missing.ensures ∙ c.if-is_missing.false }
+
 
 pub returns : goal.returns
 returns c =
     let a = c.args in
     let l = a.out.now in
     let u = c.cells_unchecked-cells in
-    subst (λ (o : Lookup). Leaves o l c.look_sought.result c.look_sought.new.1.1.1.1.0) (sought_same qubits (shown u.result) (f (goal.at.returns c).Start) u.ensures.1 (entry a.table.now) a.any a.p (length l)) c.look_sought.ensures
+    subst (λ (o : Lookup). Leaves o l c.look_sought.result c.look_sought.new.out) (sought_same qubits (shown u.result) (f (goal.at.returns c).Start) u.ensures.1 (entry a.table.now) a.any a.p (length l)) c.look_sought.ensures

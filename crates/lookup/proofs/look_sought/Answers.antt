@@ -35,19 +35,18 @@ returns-then-not-is_judged c =
 pub found-requires : goal.found-requires
 found-requires c =
     let a = c.args in
-    let z = c.winner-w.ensures in (
-      (
+    let z = c.winner-w.ensures in
+    record { table_len = (
         c.requires.table_len.0,
         subst (λ (w : ℕ). w < 4 ^ qubits) (sym z) (winner_string qubits (e (goal.at.found-requires c).Start) a.any a.p (lit< tt) c.requires.table_len.1),
         c.requires.table_len.2,
-      ),
-      subst (λ (w : ℕ). good qubits (f (goal.at.found-requires c).Start) (e (goal.at.found-requires c).Start) w ≡ true) (sym z) (winner_good qubits (f (goal.at.found-requires c).Start) (e (goal.at.found-requires c).Start) a.any a.p c.requires.p_value (is-judged (goal.at.found-requires c).Else-not-is_judged)),
-    )
+      ); p_value = subst (λ (w : ℕ). good qubits (f (goal.at.found-requires c).Start) (e (goal.at.found-requires c).Start) w ≡ true) (sym z) (winner_good qubits (f (goal.at.found-requires c).Start) (e (goal.at.found-requires c).Start) a.any a.p c.requires.p_value (is-judged (goal.at.found-requires c).Else-not-is_judged)) }
+
 
 pub returns : goal.returns
 returns c =
     let a = c.args in
     let l = a.out.now in
-    subst (λ (o : Lookup). Leaves o l c.found.result c.found.new.1.1.1.0)
+    subst (λ (o : Lookup). Leaves o l c.found.result c.found.new.out)
     (ap (λ (w : ℕ). found qubits (f (goal.at.returns c).Start) (e (goal.at.returns c).Start) w (length l)) c.winner-w.ensures ∙ sym (sought_found qubits (f (goal.at.returns c).Start) (e (goal.at.returns c).Start) a.any a.p (length l) c.requires.p_value (is-judged (goal.at.returns c).Else-not-is_judged)))
     c.found.ensures

@@ -41,12 +41,13 @@ pub look_pair-requires : goal.look_pair-requires
 look_pair-requires c =
     let a = c.args in
     let g = given_done qubits side a.table.now a.mx.now a.my.now (done (goal.at.look_pair-requires c).In_default) in
-    ((g.0, c.if-p-ge-STRINGS.false), (g.1, g.2))
+    record { table_len = (g.0, c.if-p-ge-STRINGS.false); mx_value = (g.1, g.2) }
+
 
 pub returns : goal.returns
 returns c =
     let a = c.args in
     let l = a.out.now in
-    subst (λ (o : Lookup). Leaves o l c.look_pair.result c.look_pair.new.1.1.1.1.1.0)
+    subst (λ (o : Lookup). Leaves o l c.look_pair.result c.look_pair.new.out)
     (sym (is_sought a.any qubits side a.table.now a.mx.now a.my.now a.p.0 (length l) (done (goal.at.returns c).In_default) (lt-ltb _ _ c.if-p-ge-STRINGS.false) (sym c.is_allowed.ensures ∙ c.in_default-is_allowed.is)))
     c.look_pair.ensures

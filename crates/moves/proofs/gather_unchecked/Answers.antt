@@ -20,7 +20,7 @@ odds-requires c =
 pub loop-i-init : goal.loop-i-init
 loop-i-init c =
     let a = c.args in
-    let g = c.odds.new.1.1.1.0 in (
+    let g = c.odds.new.gs in (
       omega arith,
       record { scratch = record { long_x = c.requires.1.long_x; long_g = c.odds.ensures.0 }; front = omega arith; led = none },
       subst (λ ((goal.at.loop-i-init c).After-transposed : ℕ). Odds (goal.at.loop-i-init c).After-transposed a.rs.now 0 a.m g) c.transposed.ensures c.odds.ensures.1,
@@ -33,18 +33,18 @@ told c h =
 
 pub overflow_cast-moves : goal.overflow_cast-moves
 overflow_cast-moves c =
-    record { fits = omega (arith, told (goal.at.overflow_cast-moves c).In-loop-i c.loop-i-test.true) }
+    record { fits = omega (arith, told (goal.at.overflow_cast-moves c).At-loop-i c.loop-i-test.true) }
 
 pub overflow_add-k : goal.overflow_add-k
 overflow_add-k c =
-    omega (arith, told (goal.at.overflow_add-k c).After-way_told-in-loop-i-1 c.loop-i-test.true, c.loop-i.invariant.1.front, c.requires.2.few)
+    omega (arith, told (goal.at.overflow_add-k c).At-loop-i c.loop-i-test.true, c.loop-i.invariant.1.front, c.requires.2.few)
 
 pub loop-i-preserved : goal.loop-i-preserved
 loop-i-preserved c =
     let a = c.args in
     let lt = c.loop-i-test.true in (
       omega arith,
-      gather_more qubits a.p a.rs.now a.ns.now a.m c.loop-i.i c.loop-i.xs c.loop-i.gs c.loop-i.k c.requires.2 lt c.loop-i.invariant.1 (at c.loop-i.gs c.loop-i.i) (told (goal.at.loop-i-preserved c).After-way_told-in-loop-i-1 lt),
+      gather_more qubits a.p a.rs.now a.ns.now a.m c.loop-i.i c.loop-i.xs c.loop-i.gs c.loop-i.k c.requires.2 lt c.loop-i.invariant.1 (at c.loop-i.gs c.loop-i.i) (told (goal.at.loop-i-preserved c).At-loop-i lt),
       λ j b h.
           get_or-set_other c.loop-i.gs c.loop-i.k j (at a.ns.now c.loop-i.i) 0 (λ z. omega (arith, c.loop-i.invariant.1.front))
           ∙ c.loop-i.invariant.2 j (omega arith) h,

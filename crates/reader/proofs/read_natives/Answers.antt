@@ -14,7 +14,8 @@ slice-aggregate-native-line c = search rules
 
 pub read_behind-requires : goal.read_behind-requires
 read_behind-requires c =
-    ((c.line_end-end.ensures.1, native_small _ _ _ (line_good _ c.native_line.ensures _ c.in-Is.is)), c.requires.mx_value)
+    record { start_in_bounds = (c.line_end-end.ensures.1, native_small _ _ _ (line_good _ c.native_line.ensures _ c.in-Is.is)); mx_value = c.requires.mx_value }
+
 
 pub returns-in-Is : goal.returns-in-Is
 unfolding native_lines

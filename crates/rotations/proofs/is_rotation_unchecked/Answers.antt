@@ -19,8 +19,8 @@ flag c =
 
 pub returns-then-kept-n : goal.returns-then-kept-n
 returns-then-kept-n c =
-    c.has_pivot_support_unchecked.ensures ∙ ap (λ (b : Bool). b && has_pivot qubits (at c.args.strings.now c.args.n)) (sym c.if-kept-n.true ∙ flag (goal.at.returns-then-kept-n c).After-shared_slice_known-1)
+    c.has_pivot_support_unchecked.ensures ∙ ap (λ (b : Bool). b && has_pivot qubits (at c.args.strings.now c.args.n)) (sym c.if-kept-n.true ∙ flag (goal.at.returns-then-kept-n c).Start)
 
 pub returns : goal.returns
 returns c =
-    ap (λ (b : Bool). b && has_pivot qubits (at c.args.strings.now c.args.n)) (sym c.if-kept-n.false ∙ flag (goal.at.returns c).After-shared_slice_known-1)
+    ap (λ (b : Bool). b && has_pivot qubits (at c.args.strings.now c.args.n)) (sym c.if-kept-n.false ∙ flag (goal.at.returns c).Start)

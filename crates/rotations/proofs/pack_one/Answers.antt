@@ -25,10 +25,10 @@ returns-then-not-is_rotation_unchecked c =
     packed_skip qubits (at a.strings.now) a.rs.now a.ns.now a.m a.n (sym c.is_rotation_unchecked.ensures ∙ not-true c.is_rotation_unchecked.result c.if-not-is_rotation_unchecked.true-raw) c.requires.packed
 
 pub bounds-rs-m : goal.bounds-rs-m
-bounds-rs-m c = room (goal.at.bounds-rs-m c).After-shared_slice_known-1
+bounds-rs-m c = room (goal.at.bounds-rs-m c).Start
 
 pub bounds-ns-m : goal.bounds-ns-m
-bounds-ns-m c = room (goal.at.bounds-ns-m c).After-is_rotation_unchecked
+bounds-ns-m c = room (goal.at.bounds-ns-m c).Start
 
 pub returns : goal.returns
 returns c =

@@ -14,12 +14,13 @@ loop-left-init c = (omega arith, c.requires.packed)
 
 pub pack_one-m-requires : goal.pack_one-m-requires
 pack_one-m-requires c =
-    ((omega arith, c.requires.held.0, c.requires.held.1), c.loop-left.invariant.1)
+    record { n_lt_natives = (omega arith, c.requires.held.0, c.requires.held.1); packed = c.loop-left.invariant.1 }
+
 
 pub loop-left-preserved : goal.loop-left-preserved
 loop-left-preserved c =
     let z : 540 - c.loop-left.left + 1 ≡ 540 - (c.loop-left.left - 1) = omega arith in
-    (omega arith, subst (Packed qubits (at c.args.strings.now) c.pack_one-m.new.1.1.0 c.pack_one-m.new.1.1.1.0 c.pack_one-m.result) z c.pack_one-m.ensures)
+    (omega arith, subst (Packed qubits (at c.args.strings.now) c.pack_one-m.new.rs c.pack_one-m.new.ns c.pack_one-m.result) z c.pack_one-m.ensures)
 
 pub returns : goal.returns
 returns c =

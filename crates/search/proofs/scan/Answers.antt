@@ -38,7 +38,7 @@ returns-then-is_full c =
 
 pub entry_unchecked-p-requires : goal.entry_unchecked-p-requires
 entry_unchecked-p-requires c =
-    (omega (arith, below (goal.at.entry_unchecked-p-requires c).After-slice_known-2-1, c.loop-i-test.true), long (goal.at.entry_unchecked-p-requires c).After-slice_known-2-1)
+    (omega (arith, below (goal.at.entry_unchecked-p-requires c).At-loop-i, c.loop-i-test.true), long (goal.at.entry_unchecked-p-requires c).At-loop-i)
 
 pub refresh_unchecked-since-requires : goal.refresh_unchecked-since-requires
 refresh_unchecked-since-requires c =
@@ -54,23 +54,21 @@ read c =
 
 pub visit-c-requires : goal.visit-c-requires
 visit-c-requires c =
-    (
-      (
+    record { scratch = (
         c.loop-i.invariant.2.scratch,
         c.requires.scratch.1,
         c.refresh_unchecked-since.ensures.1,
         listed_moving qubits (state c.loop-i.table (strung c.args.short c.loop-i.queue) c.loop-i.c) c.loop-i.i c.entry_unchecked-p.result c.loop-i.invariant.2.good c.loop-i-test.true (read (goal.at.visit-c-requires c).After-is_full),
-      ),
-      (c.loop-i.invariant.3, c.is_full.ensures.0 c.if-is_full.false),
-    )
+      ); notes = (c.loop-i.invariant.3, c.is_full.ensures.0 c.if-is_full.false) }
+
 
 pub overflow_add-i : goal.overflow_add-i
 overflow_add-i c =
-    omega (arith, below (goal.at.overflow_add-i c).Start, c.loop-i-test.true)
+    omega (arith, below (goal.at.overflow_add-i c).At-loop-i, c.loop-i-test.true)
 
 pub loop-i-smaller : goal.loop-i-smaller
 loop-i-smaller c =
-    omega (arith, below (goal.at.loop-i-smaller c).Start, c.loop-i-test.true)
+    omega (arith, below (goal.at.loop-i-smaller c).At-loop-i, c.loop-i-test.true)
 
 pub loop-i-preserved : goal.loop-i-preserved
 loop-i-preserved c =
@@ -78,7 +76,7 @@ loop-i-preserved c =
       c.visit-c.auto.0 ∙ c.loop-i.invariant.0,
       c.visit-c.auto.1.0 ∙ c.loop-i.invariant.1,
       scan_next qubits twelve a.rs.now a.ns.now a.m a.from (state a.table.now (strung a.short a.queue.now) a.count) c.loop-i.xs c.loop-i.gs c.loop-i.filter (state c.loop-i.table (strung a.short c.loop-i.queue) c.loop-i.c) c.loop-i.i c.loop-i.since c.loop-i.invariant.2
-          c.visit-c.new.1.1.1.1.1.1.0 c.visit-c.new.1.1.1.1.1.1.1.0 c.refresh_unchecked-since.new.1.1.1.0 (state c.visit-c.new.0 (strung a.short c.visit-c.new.1.0) c.visit-c.result) c.entry_unchecked-p.result c.refresh_unchecked-since.result
+          c.visit-c.new.xs c.visit-c.new.gs c.refresh_unchecked-since.new.filter (state c.visit-c.new.table (strung a.short c.visit-c.new.queue) c.visit-c.result) c.entry_unchecked-p.result c.refresh_unchecked-since.result
           c.requires.scratch.1 c.loop-i-test.true (read (goal.at.loop-i-preserved c).After-is_full) c.refresh_unchecked-since.ensures.0 c.visit-c.ensures.0 c.refresh_unchecked-since.ensures.1 c.visit-c.ensures.1,
       c.visit-c.ensures.2,
     )

@@ -14,11 +14,10 @@ use Rattle.search.proofs.turn.Goals as goal
 pub visits-requires : goal.visits-requires
 visits-requires c =
     let a = c.args in
-    let xs = c.gather_unchecked-k.new.1.1.1.1.0 in
-    let gs = c.gather_unchecked-k.new.1.1.1.1.1.0 in (
-      (omega (arith, c.gather_unchecked-k.ensures.front, c.requires.scratch.1.few), c.requires.scratch.2.good, c.requires.notes.0, c.requires.notes.1),
-      λ j h. moving_asks qubits twelve a.p a.depth (at xs j) (at gs j) (state a.table.now (strung a.short a.queue.now) a.count) (led_beside twelve a.m c.requires.scratch.2.small c.requires.scratch.1 c.gather_unchecked-k.ensures.led j h) c.requires.scratch.2,
-    )
+    let xs = c.gather_unchecked-k.new.xs in
+    let gs = c.gather_unchecked-k.new.gs in
+    record { k_le_natives = (omega (arith, c.gather_unchecked-k.ensures.front, c.requires.scratch.1.few), c.requires.scratch.2.good, c.requires.notes.0, c.requires.notes.1); by_index = λ j h. moving_asks qubits twelve a.p a.depth (at xs j) (at gs j) (state a.table.now (strung a.short a.queue.now) a.count) (led_beside twelve a.m c.requires.scratch.2.small c.requires.scratch.1 c.gather_unchecked-k.ensures.led j h) c.requires.scratch.2 }
+
 
 pub returns : goal.returns
 returns c =

@@ -26,7 +26,8 @@ returns-then-is_clear_unchecked c =
 pub turn-requires : goal.turn-requires
 turn-requires c =
     let a = c.args in
-    ((c.requires.scratch.0, c.requires.scratch.1, subst (λ (v : ℕ). Moving qubits a.p (depth v + 1) (state a.table.now (strung a.short a.queue.now) a.count)) (sym c.entry_unchecked-v.ensures) c.requires.scratch.3), c.requires.notes)
+    record { scratch = (c.requires.scratch.0, c.requires.scratch.1, subst (λ (v : ℕ). Moving qubits a.p (depth v + 1) (state a.table.now (strung a.short a.queue.now) a.count)) (sym c.entry_unchecked-v.ensures) c.requires.scratch.3); notes = c.requires.notes }
+
 
 pub returns : goal.returns
 returns c =

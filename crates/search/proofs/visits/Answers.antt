@@ -29,17 +29,16 @@ discover_unchecked-c-requires c =
     let w = state a.table.now (strung a.short a.queue.now) a.count in
     let x = at a.xs.now c.loop-j.j in
     let n = at a.gs.now c.loop-j.j in
-    let t = tried_asks qubits twelve (at a.xs.now) (at a.gs.now) a.depth c.loop-j.j w c.requires.k_le_natives.1 (λ j h. c.requires.by_index j (omega (arith, c.loop-j.invariant.0))) in (
-      (
+    let t = tried_asks qubits twelve (at a.xs.now) (at a.gs.now) a.depth c.loop-j.j w c.requires.k_le_natives.1 (λ j h. c.requires.by_index j (omega (arith, c.loop-j.invariant.0))) in
+    record { good = (
         subst (Good qubits) (sym c.loop-j.invariant.3) t.0,
         subst (λ (w : State). Asks qubits w x a.depth n) (sym c.loop-j.invariant.3) (t.1 x a.depth n (c.requires.by_index c.loop-j.j c.loop-j-test.true)),
-      ),
-      (
+      ); notes = (
         c.loop-j.invariant.4,
         room_less a.short a.count c.loop-j.c 1 natives c.requires.k_le_natives.3
             (omega (arith, ap (λ ((goal.at.discover_unchecked-c-requires c).After-slice_known-2-1 : State). c.count) c.loop-j.invariant.3, tried_count (at a.xs.now) (at a.gs.now) a.depth c.loop-j.j w, c.loop-j-test.true, c.requires.k_le_natives.0)),
-      ),
-    )
+      ) }
+
 
 pub loop-j-preserved : goal.loop-j-preserved
 loop-j-preserved c =

@@ -17,7 +17,8 @@ loop-n-init c =
 
 pub lower-end-requires : goal.lower-end-requires
 lower-end-requires c =
-    ((c.loop-n-test.true, c.requires), c.loop-n.invariant.1)
+    record { n_lt_natives = (c.loop-n-test.true, c.requires); ceiling = c.loop-n.invariant.1 }
+
 
 pub loop-n-preserved : goal.loop-n-preserved
 loop-n-preserved c = (omega arith, c.lower-end.ensures)

@@ -20,7 +20,8 @@ pub check_pair-p-requires : goal.check_pair-p-requires
 check_pair-p-requires c =
     let a = c.args in
     let g = given_done qubits side a.table.now a.mx.now a.my.now (done (goal.at.check_pair-p-requires c).In-Done) in
-    (g.0, (g.1, g.2))
+    record { table_len = g.0; mx_value = (g.1, g.2) }
+
 
 pub returns-then-p-lt-STRINGS : goal.returns-then-p-lt-STRINGS
 returns-then-p-lt-STRINGS c =

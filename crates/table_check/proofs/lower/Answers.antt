@@ -26,7 +26,7 @@ pub returns-then-not-kept-n : goal.returns-then-not-kept-n
 returns-then-not-kept-n c =
     let a = c.args in
     ceiling_stays qubits (at a.strings.now) (entry a.table.now) a.n a.end c.requires.ceiling
-    (λ p k g l. absurd (true≢false (sym k.is_kept ∙ sym (flag (goal.at.returns-then-not-kept-n c).After-shared_slice_known-1) ∙ not-true (get_or a.kept.now a.n false) c.if-not-kept-n.true-raw)))
+    (λ p k g l. absurd (true≢false (sym k.is_kept ∙ sym (flag (goal.at.returns-then-not-kept-n c).Start) ∙ not-true (get_or a.kept.now a.n false) c.if-not-kept-n.true-raw)))
 
 pub returns-then-x-eq0 : goal.returns-then-x-eq0
 returns-then-x-eq0 c =
@@ -49,6 +49,6 @@ returns c =
     let a = c.args in
     ceiling_falls qubits (at a.strings.now) (entry a.table.now) a.n a.end c.requires.ceiling (at a.strings.now a.n)
     (omega (arith, c.if-end-x.false))
-    (record { below = c.requires.n_lt_natives.0; is_kept = sym (flag (goal.at.returns c).After-shared_slice_known-1) ∙ not-false (get_or a.kept.now a.n false) c.if-not-kept-n.false-raw; measures = refl })
+    (record { below = c.requires.n_lt_natives.0; is_kept = sym (flag (goal.at.returns c).Start) ∙ not-false (get_or a.kept.now a.n false) c.if-not-kept-n.false-raw; measures = refl })
     c.if-x-eq0.false
     (λ z. c.if-entry_unchecked-n.false (c.entry_unchecked.ensures ∙ z))

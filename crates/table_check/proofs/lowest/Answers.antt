@@ -18,7 +18,8 @@ returns-then-entry_unchecked-ne541 c =
 
 pub pack_unchecked-m-requires : goal.pack_unchecked-m-requires
 pack_unchecked-m-requires c =
-    ((c.requires.held, c.requires.flagged), packed_fresh qubits (at c.args.strings.now))
+    record { held = (c.requires.held, c.requires.flagged); packed = packed_fresh qubits (at c.args.strings.now) }
+
 
 pub returns : goal.returns
 returns c =

@@ -35,7 +35,8 @@ returns-then-h-top c =
 pub calm-requires : goal.calm-requires
 calm-requires c =
     let a = c.args in
-    ((c.requires.xs_len.0, c.requires.p_bound, packs qubits (at a.strings.now) a.rs.now a.m c.requires.xs_len.2), (c.requires.xs_len.1.table_long, c.height-h.ensures.1))
+    record { xs_len = (c.requires.xs_len.0, c.requires.p_bound, packs qubits (at a.strings.now) a.rs.now a.m c.requires.xs_len.2); table_len = (c.requires.xs_len.1.table_long, c.height-h.ensures.1) }
+
 
 pub returns : goal.returns
 returns c =

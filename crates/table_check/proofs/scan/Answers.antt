@@ -24,7 +24,8 @@ loop-p-init c =
 
 pub meets-requires : goal.meets-requires
 meets-requires c =
-    ((c.loop-p.invariant.2, c.requires.readable.0, c.requires.readable.1), omega (arith, c.loop-p-test.true, c.requires.ceiling.within))
+    record { xs_len = (c.loop-p.invariant.2, c.requires.readable.0, c.requires.readable.1); p_bound = omega (arith, c.loop-p-test.true, c.requires.ceiling.within) }
+
 
 pub returns-then-not-meets : goal.returns-then-not-meets
 returns-then-not-meets c =

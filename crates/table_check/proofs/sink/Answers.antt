@@ -20,7 +20,8 @@ loop-x-init c =
 
 pub sink_from-r-requires : goal.sink_from-r-requires
 sink_from-r-requires c =
-    ((c.loop-x.invariant.2, c.loop-x-test.true, c.requires.1), c.requires.0)
+    record { xs_len = (c.loop-x.invariant.2, c.loop-x-test.true, c.requires.1); table_len = c.requires.0 }
+
 
 pub loop-x-preserved : goal.loop-x-preserved
 loop-x-preserved c =

@@ -23,15 +23,15 @@ returns-then-top-h c =
 pub sink_of-requires : goal.sink_of-requires
 sink_of-requires c =
     let a = c.args in
-    (c.requires.table_len, c.requires.xs_len.2.few, neighbours_small qubits a.x a.rs.now a.m c.neighbours.new.1.1.1.0 c.neighbours.ensures c.requires.xs_len.1 c.requires.xs_len.2, c.height-h.ensures.1)
+    (c.requires.table_len, c.requires.xs_len.2.few, neighbours_small qubits a.x a.rs.now a.m c.neighbours.new.xs c.neighbours.ensures c.requires.xs_len.1 c.requires.xs_len.2, c.height-h.ensures.1)
 
 pub returns : goal.returns
 returns c =
     let a = c.args in
     let e = entry a.table.now in
-    let xs = c.neighbours.new.1.1.1.0 in
-    let low : height (e a.x) + 2 ≤ a.top = omega (arith, read (goal.at.returns c).After-entry_unchecked, c.if-top-h.false) in (
+    let xs = c.neighbours.new.xs in
+    let low : height (e a.x) + 2 ≤ a.top = omega (arith, read (goal.at.returns c).After-height-h, c.if-top-h.false) in (
       λ f t. high_blames qubits a.x a.rs.now a.m xs c.neighbours.ensures f t e a.top a.end c.sink_of.result low
-          (subst (λ (k : ℕ). Least (High e k xs a.m) a.end c.sink_of.result) (read (goal.at.returns c).After-entry_unchecked) c.sink_of.ensures),
+          (subst (λ (k : ℕ). Least (High e k xs a.m) a.end c.sink_of.result) (read (goal.at.returns c).After-height-h) c.sink_of.ensures),
       c.neighbours.ensures.long,
     )
