@@ -24,7 +24,7 @@ f c = shown c.args.cells.now
 abbrev e : Start → ℕ → ℕ
 e c = entry c.args.table.now
 
-is-judged : (c : Else-not-is_judged) → judged c.args.any qubits (f c.Start) (e c.Start) c.args.p ≡ true
+is-judged : (c : Else-not-is_judged) → judged c.args.any qubits (shown c.args.cells.now) (entry c.args.table.now) c.args.p ≡ true
 is-judged c = sym c.is_judged.ensures ∙ not-false _ c.if-not-is_judged.false-raw
 
 pub returns-then-not-is_judged : goal.returns-then-not-is_judged

@@ -23,7 +23,7 @@ loop-i-init c =
     let g = c.odds.new.gs in (
       omega arith,
       record { scratch = record { long_x = c.requires.1.long_x; long_g = c.odds.ensures.0 }; front = omega arith; led = none },
-      subst (λ ((goal.at.loop-i-init c).After-transposed : ℕ). Odds (goal.at.loop-i-init c).After-transposed a.rs.now 0 a.m g) c.transposed.ensures c.odds.ensures.1,
+      subst (λ (t : ℕ). Odds t a.rs.now 0 a.m g) c.transposed.ensures c.odds.ensures.1,
     )
 
 -- what the place tells is the parity of the clashes

@@ -12,10 +12,6 @@ use Rattle.text.proofs.put_bytes_unchecked.Goals as goal
 pub loop-i-init : goal.loop-i-init
 loop-i-init c = (search rules, put_none _ _)
 
-shared-slice-read-put-byte-unchecked :
-    tie.Need-shared-slice-read-put-byte-unchecked invariant-loop decreases-loop
-shared-slice-read-put-byte-unchecked c = search rules
-
 pub put_byte_unchecked-to-requires : goal.put_byte_unchecked-to-requires
 put_byte_unchecked-to-requires c = omega (arith, length-take-le c.loop-i.i c.args.s.now c.loop-i.invariant.0)
 
