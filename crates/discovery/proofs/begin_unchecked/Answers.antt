@@ -17,8 +17,8 @@ unfolding begun
 returns c =
     let k = table_length qubits in
     let eT : c.put_unchecked.new.table ≡ put (zeros k) 0 identity =
-    c.put_unchecked.ensures ∙ ap (λ ((goal.at.returns c).After-clear_unchecked : List _). put (goal.at.returns c).After-clear_unchecked 0 identity) (c.clear_unchecked.ensures ∙ ap zeros c.requires.0) in
+    c.put_unchecked.ensures ∙ ap (λ (t : List _). put t 0 identity) (c.clear_unchecked.ensures ∙ ap zeros c.requires.0) in
     let eQ : c.note.new.queue ≡ noted true (zeros k) 0 = c.note.ensures ∙ ap (λ (l : List _). noted true l 0) (c.clear_unchecked-2.ensures ∙ ap zeros c.requires.1) in (
-      ap₂ (λ ((goal.at.returns c).After-clear_unchecked (goal.at.returns c).After-clear_unchecked-2 : List _). state (goal.at.returns c).After-clear_unchecked (goal.at.returns c).After-clear_unchecked-2 0) eT (ap (strung true) eQ ∙ strung_noted true (zeros k) 0 ∙ strung_zeros k (lit≤ tt)),
-      subst (λ (l : List _). Notes true qubits l c.put_unchecked.new.table) (sym eQ) (subst (λ ((goal.at.returns c).After-clear_unchecked : List _). Notes true qubits (noted true (zeros k) 0) (goal.at.returns c).After-clear_unchecked) (sym eT) (notes_begun qubits k (lit< tt))),
+      ap₂ (λ (t u : List _). state t u 0) eT (ap (strung true) eQ ∙ strung_noted true (zeros k) 0 ∙ strung_zeros k (lit≤ tt)),
+      subst (λ (l : List _). Notes true qubits l c.put_unchecked.new.table) (sym eQ) (subst (λ (t : List _). Notes true qubits (noted true (zeros k) 0) t) (sym eT) (notes_begun qubits k (lit< tt))),
     )

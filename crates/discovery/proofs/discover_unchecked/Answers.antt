@@ -50,7 +50,7 @@ put_unchecked-requires-2 c =
 
 pub note-requires : goal.note-requires
 note-requires c =
-    (c.requires.good.1.small, c.put_unchecked-2.auto.0 ∙ long (goal.at.note-requires c).Start)
+    (c.requires.good.1.small, c.put_unchecked-2.auto.table ∙ long (goal.at.note-requires c).Start)
 
 pub overflow_add-result : goal.overflow_add-result
 overflow_add-result c =

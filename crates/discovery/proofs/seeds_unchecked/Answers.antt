@@ -30,11 +30,11 @@ loop-n-preserved c =
     let f = at c.args.strings.now in
     let w = state c.loop-n.table (strung true c.loop-n.queue) c.loop-n.c in (
       omega arith,
-      c.seed-c.auto.0 ∙ c.loop-n.invariant.1,
-      c.seed-c.auto.1.0 ∙ c.loop-n.invariant.2,
+      c.seed-c.auto.table ∙ c.loop-n.invariant.1,
+      c.seed-c.auto.queue ∙ c.loop-n.invariant.2,
       subst (Good qubits) (sym c.seed-c.ensures.0) (seed_good qubits twelve f c.loop-n.n w (c.requires.held.small c.loop-n.n) c.loop-n-test.true c.loop-n.invariant.3),
       c.seed-c.ensures.0 ∙ ap (seed f c.loop-n.n) c.loop-n.invariant.4 ∙ sym (in_turn_next c.loop-n.n (seed f) (begun qubits)),
-      omega (arith, ap (λ ((goal.at.loop-n-preserved c).Start : State). c.count) c.seed-c.ensures.0, seed_count f c.loop-n.n w, c.loop-n.invariant.5),
+      omega (arith, ap (λ (s : State). s.count) c.seed-c.ensures.0, seed_count f c.loop-n.n w, c.loop-n.invariant.5),
       c.seed-c.ensures.1,
     )
 

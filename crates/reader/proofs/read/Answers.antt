@@ -11,11 +11,7 @@ head : (c : After-matrix_line-y) → Head c.args.input.now c.line_end-first.resu
 head c =
     record { first_end = c.line_end-first.ensures.0; second_end = c.line_end-second.ensures.0; first = c.matrix_line-x.ensures; second = c.matrix_line-y.ensures }
 
-slice-aggregate-matrix-line : tie.Need-slice-aggregate-matrix-line
-slice-aggregate-matrix-line c = search rules
 
-slice-aggregate-matrix-line-2 : tie.Need-slice-aggregate-matrix-line-2
-slice-aggregate-matrix-line-2 c = search rules
 
 pub returns-in-Refused : goal.returns-in-Refused
 returns-in-Refused c = c.no_plan.ensures ∙ ap plan_answer (sym (first_bad (head (goal.at.returns-in-Refused c).After-matrix_line-y) _ c.in-Refused.is))

@@ -9,8 +9,6 @@ use Rattle.reader.proofs.Good.{native_small}
 use Rattle.reader.proofs.Answers.{line_good, line_bad}
 use Rattle.reader.proofs.read_natives.Goals as goal
 
-slice-aggregate-native-line : tie.Need-slice-aggregate-native-line
-slice-aggregate-native-line c = search rules
 
 pub read_behind-requires : goal.read_behind-requires
 read_behind-requires c =

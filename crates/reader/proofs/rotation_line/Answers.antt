@@ -6,8 +6,6 @@ use Rattle.reader.proofs.Good.{native_small}
 use Rattle.reader.proofs.Answers.{line_good, line_bad}
 use Rattle.reader.proofs.rotation_line.Goals as goal
 
-slice-aggregate-native-line : tie.Need-slice-aggregate-native-line
-slice-aggregate-native-line c = search rules
 
 pub supported-requires : goal.supported-requires
 supported-requires c =
