@@ -3,8 +3,6 @@ use Rattle.listing.proofs.Answers.{answer_done, answer_refused}
 use borrow.Author.Rules.{rules}
 use Rattle.listing.proofs.put_answer.Goals as goal
 
-slice-aggregate-put-number-line : tie.Need-slice-aggregate-put-number-line
-slice-aggregate-put-number-line c = search rules
 
 pub returns-in-Refused : goal.returns-in-Refused
 returns-in-Refused c = answer_refused c.args.plan _ _ c.in-Refused.is c.number.ensures c.put_number_line.ensures.0

@@ -4,8 +4,6 @@ use Rattle.listing.proofs.Texts.{base_put}
 use borrow.Author.Rules.{rules}
 use Rattle.listing.proofs.put_base.Goals as goal
 
-slice-aggregate-put-native : tie.Need-slice-aggregate-put-native
-slice-aggregate-put-native c = search rules
 
 pub returns : goal.returns
 returns c = (base_put _ _ c.implementation.ensures c.put_native-value.ensures.0 c.put_native_unchecked-end.ensures.0 c.put_byte_unchecked.ensures, omega (arith, c.put_native-value.ensures.1, c.put_native_unchecked-end.ensures.1, c.put_byte_unchecked.ensures.moves))

@@ -4,11 +4,7 @@ use Rattle.text.proofs.Puts.{then}
 use borrow.Author.Rules.{rules}
 use Rattle.listing.proofs.put_head.Goals as goal
 
-slice-aggregate-put-number-line : tie.Need-slice-aggregate-put-number-line
-slice-aggregate-put-number-line c = search rules
 
-slice-aggregate-put-number-line-2 : tie.Need-slice-aggregate-put-number-line-2
-slice-aggregate-put-number-line-2 c = search rules
 
 pub returns : goal.returns
 returns c =

@@ -6,8 +6,6 @@ use Rattle.listing.proofs.Texts.{printed_bytes}
 use borrow.Author.Rules.{rules}
 use Rattle.listing.proofs.put_measures.Goals as goal
 
-slice-aggregate-put-bytes-unchecked-2 : tie.Need-slice-aggregate-put-bytes-unchecked-2
-slice-aggregate-put-bytes-unchecked-2 c = search rules
 
 pub put_bytes_unchecked-end-requires : goal.put_bytes_unchecked-end-requires
 put_bytes_unchecked-end-requires c = omega (arith, c.put_bytes_unchecked-value.ensures.moves, printed_length c.args.measures.0 _ c.display-t.ensures)

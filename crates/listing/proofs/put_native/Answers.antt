@@ -4,8 +4,6 @@ use Rattle.text.proofs.Puts.{then}
 use borrow.Author.Rules.{rules}
 use Rattle.listing.proofs.put_native.Goals as goal
 
-slice-aggregate-put-bytes-unchecked : tie.Need-slice-aggregate-put-bytes-unchecked
-slice-aggregate-put-bytes-unchecked c = search rules
 
 pub returns : goal.returns
 returns c = (then c.put_number_line-next.ensures.0 c.put_bytes_unchecked.ensures, omega (arith, c.put_number_line-next.ensures.1, c.put_bytes_unchecked.ensures.moves))

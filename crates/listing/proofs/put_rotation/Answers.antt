@@ -5,17 +5,9 @@ use Rattle.listing.proofs.Texts.{rotation_put}
 use borrow.Author.Rules.{rules}
 use Rattle.listing.proofs.put_rotation.Goals as goal
 
-cast-t9 : tie.Need-overflow-cast-t9
-cast-t9 c = search rules
 
-mul-t10 : tie.Need-overflow-mul-t10
-mul-t10 c = search rules
 
-shared-slice-read-t12 : tie.Need-shared-slice-read-t12
-shared-slice-read-t12 c = search rules
 
-slice-aggregate-put-native : tie.Need-slice-aggregate-put-native
-slice-aggregate-put-native c = search rules
 
 pub returns : goal.returns
 returns c = (rotation_put _ (at c.args.strings.now) _ c.rotation_by_unchecked.ensures c.put_native-value.ensures.0 c.put_rotation_unchecked-end.ensures.0 c.put_byte_unchecked.ensures, omega (arith, c.put_native-value.ensures.1, c.put_rotation_unchecked-end.ensures.1, c.put_byte_unchecked.ensures.moves))

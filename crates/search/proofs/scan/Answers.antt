@@ -73,8 +73,8 @@ loop-i-smaller c =
 pub loop-i-preserved : goal.loop-i-preserved
 loop-i-preserved c =
     let a = c.args in (
-      c.visit-c.auto.0 ∙ c.loop-i.invariant.0,
-      c.visit-c.auto.1.0 ∙ c.loop-i.invariant.1,
+      c.visit-c.auto.table ∙ c.loop-i.invariant.0,
+      c.visit-c.auto.queue ∙ c.loop-i.invariant.1,
       scan_next qubits twelve a.rs.now a.ns.now a.m a.from (state a.table.now (strung a.short a.queue.now) a.count) c.loop-i.xs c.loop-i.gs c.loop-i.filter (state c.loop-i.table (strung a.short c.loop-i.queue) c.loop-i.c) c.loop-i.i c.loop-i.since c.loop-i.invariant.2
           c.visit-c.new.xs c.visit-c.new.gs c.refresh_unchecked-since.new.filter (state c.visit-c.new.table (strung a.short c.visit-c.new.queue) c.visit-c.result) c.entry_unchecked-p.result c.refresh_unchecked-since.result
           c.requires.scratch.1 c.loop-i-test.true (read (goal.at.loop-i-preserved c).After-is_full) c.refresh_unchecked-since.ensures.0 c.visit-c.ensures.0 c.refresh_unchecked-since.ensures.1 c.visit-c.ensures.1,

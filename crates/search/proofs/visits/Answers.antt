@@ -36,7 +36,7 @@ discover_unchecked-c-requires c =
       ); notes = (
         c.loop-j.invariant.4,
         room_less a.short a.count c.loop-j.c 1 natives c.requires.k_le_natives.3
-            (omega (arith, ap (λ ((goal.at.discover_unchecked-c-requires c).After-slice_known-2-1 : State). c.count) c.loop-j.invariant.3, tried_count (at a.xs.now) (at a.gs.now) a.depth c.loop-j.j w, c.loop-j-test.true, c.requires.k_le_natives.0)),
+            (omega (arith, ap (λ (s : State). s.count) c.loop-j.invariant.3, tried_count (at a.xs.now) (at a.gs.now) a.depth c.loop-j.j w, c.loop-j-test.true, c.requires.k_le_natives.0)),
       ) }
 
 
@@ -45,8 +45,8 @@ loop-j-preserved c =
     let a = c.args in
     let w = state a.table.now (strung a.short a.queue.now) a.count in (
       omega arith,
-      c.discover_unchecked-c.auto.0 ∙ c.loop-j.invariant.1,
-      c.discover_unchecked-c.auto.1.0 ∙ c.loop-j.invariant.2,
+      c.discover_unchecked-c.auto.table ∙ c.loop-j.invariant.1,
+      c.discover_unchecked-c.auto.queue ∙ c.loop-j.invariant.2,
       c.discover_unchecked-c.ensures.0
           ∙ ap (discover (at a.xs.now c.loop-j.j) (value a.depth (at a.gs.now c.loop-j.j))) c.loop-j.invariant.3
           ∙ sym (in_turn_next c.loop-j.j (listed_tried a.xs.now a.gs.now a.depth) w),
