@@ -32,8 +32,8 @@ search_unchecked-c-requires c =
 pub overflow_add-result : goal.overflow_add-result
 overflow_add-result c =
     let w = state c.search_unchecked-c.new.table c.search_unchecked-c.new.queue c.search_unchecked-c.result in
-    omega (arith, count_below qubits w (subst (Good qubits) (sym (searched (goal.at.overflow_add-result c).After-search_unchecked-arg-2-1)) (searched-good (goal.at.overflow_add-result c).After-search_unchecked-c)))
+    omega (arith, count_below qubits w (subst (Good qubits) (sym (searched (goal.at.overflow_add-result c).After-search_unchecked-c)) (searched-good (goal.at.overflow_add-result c).After-search_unchecked-c)))
 
 pub returns : goal.returns
 returns c =
-    built_outcome qubits c.search_unchecked-c.new.table c.search_unchecked-c.new.queue c.search_unchecked-c.result c.deepest-d.result (built qubits (at c.args.strings.now)) (searched (goal.at.returns c).After-search_unchecked-arg-2-1) (searched-good (goal.at.returns c).After-search_unchecked-c) c.deepest-d.ensures
+    built_outcome qubits c.search_unchecked-c.new.table c.search_unchecked-c.new.queue c.search_unchecked-c.result c.deepest-d.result (built qubits (at c.args.strings.now)) (searched (goal.at.returns c).After-search_unchecked-c) (searched-good (goal.at.returns c).After-search_unchecked-c) c.deepest-d.ensures

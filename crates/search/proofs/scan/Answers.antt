@@ -50,7 +50,7 @@ read : (c : After-entry_unchecked-p)
 read c =
     let short = c.args.short in
     c.entry_unchecked-p.ensures
-    ∙ sym (strung_entry short c.loop-i.queue c.loop-i.c c.loop-i.i (omega (arith, long c.After-slice_known-2-1)) (room_less short c.loop-i.c c.loop-i.c 0 natives (c.is_full.ensures.0 c.if-is_full.false) (omega arith)) c.loop-i-test.true)
+    ∙ sym (strung_entry short c.loop-i.queue c.loop-i.c c.loop-i.i (omega (arith, sym (length_strung short c.loop-i.queue) ∙ c.loop-i.invariant.2.good.queue_long)) (room_less short c.loop-i.c c.loop-i.c 0 natives (c.is_full.ensures.0 c.if-is_full.false) (omega arith)) c.loop-i-test.true)
 
 pub visit-c-requires : goal.visit-c-requires
 visit-c-requires c =
@@ -58,7 +58,7 @@ visit-c-requires c =
         c.loop-i.invariant.2.scratch,
         c.requires.scratch.1,
         c.refresh_unchecked-since.ensures.1,
-        listed_moving qubits (state c.loop-i.table (strung c.args.short c.loop-i.queue) c.loop-i.c) c.loop-i.i c.entry_unchecked-p.result c.loop-i.invariant.2.good c.loop-i-test.true (read (goal.at.visit-c-requires c).After-is_full),
+        listed_moving qubits (state c.loop-i.table (strung c.args.short c.loop-i.queue) c.loop-i.c) c.loop-i.i c.entry_unchecked-p.result c.loop-i.invariant.2.good c.loop-i-test.true (read (goal.at.visit-c-requires c).After-entry_unchecked-p),
       ); notes = (c.loop-i.invariant.3, c.is_full.ensures.0 c.if-is_full.false) }
 
 
@@ -77,7 +77,7 @@ loop-i-preserved c =
       c.visit-c.auto.queue ∙ c.loop-i.invariant.1,
       scan_next qubits twelve a.rs.now a.ns.now a.m a.from (state a.table.now (strung a.short a.queue.now) a.count) c.loop-i.xs c.loop-i.gs c.loop-i.filter (state c.loop-i.table (strung a.short c.loop-i.queue) c.loop-i.c) c.loop-i.i c.loop-i.since c.loop-i.invariant.2
           c.visit-c.new.xs c.visit-c.new.gs c.refresh_unchecked-since.new.filter (state c.visit-c.new.table (strung a.short c.visit-c.new.queue) c.visit-c.result) c.entry_unchecked-p.result c.refresh_unchecked-since.result
-          c.requires.scratch.1 c.loop-i-test.true (read (goal.at.loop-i-preserved c).After-is_full) c.refresh_unchecked-since.ensures.0 c.visit-c.ensures.0 c.refresh_unchecked-since.ensures.1 c.visit-c.ensures.1,
+          c.requires.scratch.1 c.loop-i-test.true (read (goal.at.loop-i-preserved c).After-entry_unchecked-p) c.refresh_unchecked-since.ensures.0 c.visit-c.ensures.0 c.refresh_unchecked-since.ensures.1 c.visit-c.ensures.1,
       c.visit-c.ensures.2,
     )
 

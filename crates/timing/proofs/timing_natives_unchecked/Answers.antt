@@ -11,9 +11,12 @@ use Rattle.natives.specs.declared.Natives.{Natives}
 use Rattle.natives.specs.Kept.{kept}
 use Rattle.timing.proofs.timing_natives_unchecked.Goals as goal
 
-pub returns : goal.returns
-returns c =
-    let all = c.natives_unchecked-all.ensures in
-    let n = c.args.n in
-    let f = pair_string side c.args.mx.now c.args.my.now in
-    (ap (λ (a : Natives). get_or a.strings n 0) all ∙ listed_at f 0 natives n c.requires.2, ap (λ (a : Natives). get_or a.kept n false) all ∙ listed_at (kept f) false natives n c.requires.2)
+pub returns-clause-string_value : goal.returns-clause-string_value
+returns-clause-string_value c =
+    ap (λ (a : Natives). get_or a.strings c.args.n 0) c.natives_unchecked-all.ensures
+    ∙ listed_at (pair_string side c.args.mx.now c.args.my.now) 0 natives c.args.n c.requires.2
+
+pub returns-clause-kept_value : goal.returns-clause-kept_value
+returns-clause-kept_value c =
+    ap (λ (a : Natives). get_or a.kept c.args.n false) c.natives_unchecked-all.ensures
+    ∙ listed_at (kept (pair_string side c.args.mx.now c.args.my.now)) false natives c.args.n c.requires.2
