@@ -3,6 +3,8 @@
 // Each calls one public call, or few, and answers the same as a flat struct: document 01's number, 0 where nothing is
 // refused, and the values, zeros on a refusal. A slice is passed as a pointer and a length. A native's number is passed as
 // it is answered, in 32 bits.
+#![tactic(auto)]
+
 ghost use Rattle.std.specs.Prelude.{◌≡◌, length};
 ghost use Rattle.bicycle_common.specs.Letters.{flag, read_letter};
 ghost use Rattle.bicycle_common.specs.Automorphisms.{of_pair, product};

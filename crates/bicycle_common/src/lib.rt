@@ -6,6 +6,8 @@
 //
 // Copyright contributors to the Bicycle Architecture Compiler project. Licensed under the Apache License, Version 2.0
 // (see NOTICE).
+#![tactic(auto)]
+
 ghost use Rattle.std.specs.Prelude.{◌≡◌};
 ghost use Rattle.bicycle_common.specs.Refusals.{number_of, needed_of};
 ghost use Rattle.bicycle_common.specs.Letters.{flag, x_of, z_of, is_i, anticommuting_letters, capital, read_letter, bases_of};

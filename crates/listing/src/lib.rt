@@ -3,6 +3,8 @@
 // Added: the original prints no plans. The form is document 01's, under "Plan listing". Text is put at a place of the
 // buffer as far as there is room, and the next place is answered, so that the same calls on an empty buffer tell the
 // length needed.
+#![tactic(auto)]
+
 ghost use Rattle.std.specs.Prelude.{◌≡◌, [], ◌∷◌, ◌++◌, ◌+◌, ◌*◌, ◌<◌, ◌≤◌, ◌^◌, length, take};
 ghost use Rattle.bicycle_common.specs.Bytes.{bytes_of};
 ghost use Rattle.text.specs.Puts.{Put};

@@ -8,6 +8,8 @@
 //
 // Copyright contributors to the Bicycle Architecture Compiler project. Licensed under the Apache License, Version 2.0
 // (see NOTICE).
+#![tactic(auto)]
+
 ghost use Rattle.std.specs.Prelude.{◌≡◌, true, ℕ, ◌*◌, ◌^◌, ◌<◌, ◌≤◌, ltb, get_or, length};
 ghost use Rattle.bicycle_common.specs.Ranges.{listed};
 ghost use Rattle.bicycle_common.specs.Letters.{flag, x_of, z_of};

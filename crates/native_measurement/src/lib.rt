@@ -7,6 +7,8 @@
 //
 // Copyright contributors to the Bicycle Architecture Compiler project. Licensed under the Apache License, Version 2.0
 // (see NOTICE).
+#![tactic(auto)]
+
 ghost use Rattle.std.specs.Prelude.{◌≡◌, ◌<◌};
 ghost use Rattle.bicycle_common.specs.Letters.{rank};
 ghost use Rattle.native_measurement.specs.Natives.{of_rank, pair_number, number_of};

@@ -8,6 +8,8 @@
 //
 // Copyright contributors to the Bicycle Architecture Compiler project. Licensed under the Apache License, Version 2.0
 // (see NOTICE).
+#![tactic(auto)]
+
 ghost use Rattle.std.specs.Prelude.{◌≡◌, true, ℕ, ◌+◌, ◌-◌, ◌*◌, ◌^◌, ◌<◌, ◌≤◌, eqb, get_or, length};
 ghost use Rattle.std.specs.Int.Bits.{bit_and};
 ghost use Rattle.bicycle_common.specs.Letters.{flag};

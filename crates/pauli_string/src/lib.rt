@@ -8,6 +8,8 @@
 //
 // Copyright contributors to the Bicycle Architecture Compiler project. Licensed under the Apache License, Version 2.0
 // (see NOTICE).
+#![tactic(auto)]
+
 ghost use Rattle.std.specs.Prelude.{◌≡◌, map, ◌+◌, ◌*◌, ◌<◌, ◌^◌, eqb};
 ghost use Rattle.bicycle_common.specs.Letters.{flag};
 ghost use Rattle.pauli_string.specs.Strings.{qubits, bit, letter_at, commute, conj, pivot_bits, blank, has_pivot, has_logical, rotate, logical_bits, set_bit, set_letter};

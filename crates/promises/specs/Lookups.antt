@@ -24,7 +24,7 @@ use Rattle.table.proofs.Rules.{kept_for_law}
 use Rattle.lookup.specs.declared.LookupAnswer.{LookupAnswer}
 use Rattle.lookup.specs.declared.LookupAnswer.TheVariants.{Is}
 use Rattle.lookup.specs.declared.MeasurementImpl.{MeasurementImpl}
-use Rattle.lookup.specs.Walks.{rotations, candidate, better, best, missing, judged, winner}
+use Rattle.lookup.specs.Walks.{candidate, better, best, missing, judged, winner}
 use Rattle.lookup.specs.Answers.{told_lookup, two_bytes, Lookup, Leaves, plan_by, planned, sought, looked_up, exact, pivot_free}
 use Rattle.lookup.specs.Truth.{Implements, AnswersTruly, Truly}
 use Rattle.lookup.proofs.Walks.{better_native}

@@ -2,6 +2,8 @@
 //
 // Added: the original has no plans on paper. Lines `mx=`, `my=`, `base=`, then 0 to 256 `rotation=` lines, as document 01
 // lays them down under "Plan listing".
+#![tactic(auto)]
+
 ghost use Rattle.std.specs.Prelude.{◌≡◌, true, ◌+◌, ◌*◌, ◌≤◌, ◌<◌, length, drop};
 ghost use Rattle.bicycle_common.specs.Bytes.{digit_numbers};
 ghost use Rattle.text.specs.Decimals.{all_digits};

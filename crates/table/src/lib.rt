@@ -9,6 +9,8 @@
 //
 // Copyright contributors to the Bicycle Architecture Compiler project. Licensed under the Apache License, Version 2.0
 // (see NOTICE).
+#![tactic(auto)]
+
 ghost use Rattle.std.specs.Prelude.{◌≡◌, not, ℕ, ◌^◌, ◌<◌, eqb, length};
 ghost use Rattle.bicycle_common.specs.Letters.{flag};
 ghost use Rattle.bicycle_common.specs.Ranges.{all_below};

@@ -3,6 +3,8 @@
 // Added: the original prints with the formatting of its language. A call that ends in `_unchecked` is an inner one between
 // our crates. It puts text at a place of a buffer as far as there is room, and answers the next place; so the same calls
 // on an empty buffer tell how long a text is.
+#![tactic(auto)]
+
 ghost use Rattle.std.specs.Prelude.{◌≡◌, true, [], ◌∷◌, ◌+◌, ◌<◌, ◌≤◌, ◌^◌, length};
 ghost use Rattle.bicycle_common.specs.Bytes.{digit};
 ghost use Rattle.text.specs.Puts.{Put};

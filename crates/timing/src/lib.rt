@@ -1,5 +1,7 @@
 // Inner calls of `natives` as C functions, for the benchmark alone (`host/compare/bench`): a static library of its own,
 // so that `bicycle` has no function more. Nothing is tested here, as nothing is in the calls that are timed.
+#![tactic(auto)]
+
 ghost use Rattle.std.specs.Prelude.{◌≡◌, true, ◌<◌, length};
 ghost use Rattle.native_measurement.specs.Natives.{natives};
 ghost use Rattle.measurement.specs.Matrices.{side, of_bytes, is_bytes};

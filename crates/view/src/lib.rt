@@ -6,6 +6,8 @@
 //
 // Copyright contributors to the Bicycle Architecture Compiler project. Licensed under the Apache License, Version 2.0
 // (see NOTICE).
+#![tactic(auto)]
+
 ghost use Rattle.std.specs.Prelude.{◌≡◌};
 ghost use Rattle.pauli_string.specs.Strings.{qubits};
 ghost use Rattle.table.specs.Answers.{is_empty, len_of, value_at, has_entry_at, depth_at, cost_at};

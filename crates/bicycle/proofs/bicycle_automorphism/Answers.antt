@@ -1,7 +1,6 @@
 -- `bicycle::bicycle_automorphism` meets its contract: it is the automorphism of the pair, flattened. Assumes nothing.
 use mathlib.Core.Path.{ap, ◌∙◌}
 use Rattle.bicycle.specs.Flat.{flat_automorphism}
-use borrow.Author.Rules.{rules}
 use Rattle.bicycle.proofs.bicycle_automorphism.Goals as goal
 
 pub returns : goal.returns

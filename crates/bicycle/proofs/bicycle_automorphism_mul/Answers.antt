@@ -2,7 +2,6 @@
 use mathlib.Core.Path.{ap, ap₂, ◌∙◌}
 use Rattle.bicycle_common.specs.Automorphisms.{product}
 use Rattle.bicycle.specs.Flat.{flat_automorphism}
-use borrow.Author.Rules.{rules}
 use Rattle.bicycle.proofs.bicycle_automorphism_mul.Goals as goal
 
 pub returns : goal.returns

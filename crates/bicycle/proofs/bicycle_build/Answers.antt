@@ -1,5 +1,4 @@
 -- `bicycle::bicycle_build` meets its contract: it is the build, flattened. Assumes nothing.
-use borrow.Author.Rules.{rules}
 use mathlib.Core.Path.{ap, ◌∙◌}
 use Rattle.builder.specs.Answers.{After}
 use Rattle.bicycle.specs.Flat.{flat_build}

@@ -1,7 +1,6 @@
 -- `bicycle::bicycle_commutes_with` meets its contract: it is the call of the same name, flattened. Assumes nothing.
 use mathlib.Core.Path.{ap, ◌∙◌}
 use Rattle.bicycle.specs.Flat.{flat_bool}
-use borrow.Author.Rules.{rules}
 use Rattle.bicycle.proofs.bicycle_commutes_with.Goals as goal
 
 pub returns : goal.returns

@@ -1,6 +1,5 @@
 -- `bicycle::bicycle_display` meets its contract: it is the text of the string, flattened. Assumes nothing.
 use Rattle.bicycle.proofs.Flat.{text_tells}
-use borrow.Author.Rules.{rules}
 use Rattle.bicycle.proofs.bicycle_display.Goals as goal
 
 pub returns : goal.returns

@@ -1,7 +1,6 @@
 -- `bicycle::bicycle_from_text` meets its contract: it is the call of the same name, flattened. Assumes nothing.
 use mathlib.Core.Path.{ap, ◌∙◌}
 use Rattle.bicycle.specs.Flat.{flat_string}
-use borrow.Author.Rules.{rules}
 use Rattle.bicycle.proofs.bicycle_from_text.Goals as goal
 
 pub returns : goal.returns

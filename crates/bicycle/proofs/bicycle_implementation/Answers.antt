@@ -1,5 +1,4 @@
 -- `bicycle::bicycle_implementation` meets its contract: it is the exact lookup, flattened. Assumes nothing.
-use borrow.Author.Rules.{rules}
 use Rattle.bicycle.proofs.Flat.{lookup_tells}
 use Rattle.bicycle.proofs.bicycle_implementation.Goals as goal
 

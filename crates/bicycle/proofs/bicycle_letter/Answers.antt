@@ -1,7 +1,6 @@
 -- `bicycle::bicycle_letter` meets its contract: it is the letter that is read, flattened. Assumes nothing.
 use mathlib.Core.Path.{ap, ◌∙◌}
 use Rattle.bicycle.specs.Flat.{flat_letter}
-use borrow.Author.Rules.{rules}
 use Rattle.bicycle.proofs.bicycle_letter.Goals as goal
 
 pub returns : goal.returns

@@ -1,6 +1,5 @@
 -- `bicycle::bicycle_list` meets its contract: it is the listing, flattened. Assumes nothing.
 use Rattle.bicycle.proofs.Flat.{text_tells}
-use borrow.Author.Rules.{rules}
 use Rattle.bicycle.proofs.bicycle_list.Goals as goal
 
 pub returns : goal.returns

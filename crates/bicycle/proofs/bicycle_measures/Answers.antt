@@ -1,6 +1,5 @@
 -- `bicycle::bicycle_measures` meets its contract: it is the native's string, flattened, and a number that is no native's is refused whatever stands for it. Assumes nothing.
 use Rattle.bicycle.proofs.Narrow.{measures_narrow}
-use borrow.Author.Rules.{rules}
 use Rattle.bicycle.proofs.bicycle_measures.Goals as goal
 
 pub returns : goal.returns

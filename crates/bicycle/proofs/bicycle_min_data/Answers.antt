@@ -1,5 +1,4 @@
 -- `bicycle::bicycle_min_data` meets its contract: it is the pivot-free lookup, flattened. Assumes nothing.
-use borrow.Author.Rules.{rules}
 use Rattle.bicycle.proofs.Flat.{lookup_tells}
 use Rattle.bicycle.proofs.bicycle_min_data.Goals as goal
 

@@ -1,7 +1,6 @@
 -- `bicycle::bicycle_native_instructions` meets its contract: it is the text of the native's instructions, flattened, and a number that is no native's is refused whatever stands for it. Assumes nothing.
 use Rattle.bicycle.proofs.Flat.{text_tells}
 use Rattle.bicycle.proofs.Narrow.{implementation_narrow}
-use borrow.Author.Rules.{rules}
 use Rattle.bicycle.proofs.bicycle_native_instructions.Goals as goal
 
 pub returns : goal.returns

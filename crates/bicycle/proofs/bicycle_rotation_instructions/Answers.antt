@@ -2,7 +2,6 @@
 use Rattle.pauli_string.specs.Strings.{qubits}
 use Rattle.bicycle.proofs.Flat.{text_tells}
 use Rattle.bicycle.proofs.Narrow.{rotation_narrow}
-use borrow.Author.Rules.{rules}
 use Rattle.bicycle.proofs.bicycle_rotation_instructions.Goals as goal
 
 pub returns : goal.returns

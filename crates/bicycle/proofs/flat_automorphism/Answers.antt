@@ -1,5 +1,4 @@
 -- `bicycle::flat_automorphism` meets its contract: component by component. Assumes nothing.
-use borrow.Author.Rules.{rules}
 use Rattle.bicycle.proofs.flat_automorphism.Goals as goal
 
 pub returns : goal.returns

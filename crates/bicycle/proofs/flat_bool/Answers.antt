@@ -1,7 +1,6 @@
 -- `bicycle::flat_bool` meets its contract: case by case. Assumes nothing.
 use mathlib.Core.Path.{sym, ap, ◌∙◌}
 use Rattle.bicycle.specs.Flat.{value_is, value_refusal, flat_bool}
-use borrow.Author.Rules.{rules}
 use Rattle.bicycle.proofs.flat_bool.Goals as goal
 
 pub returns-in-Is : goal.returns-in-Is

@@ -1,5 +1,4 @@
 -- `bicycle::flat_build` meets its contract, case by case. Assumes nothing.
-use borrow.Author.Rules.{rules}
 use mathlib.Core.Path.{sym, ap, ◌∙◌}
 use Rattle.bicycle.specs.Flat.{build_refusal, flat_build}
 use Rattle.bicycle.proofs.flat_build.Goals as goal

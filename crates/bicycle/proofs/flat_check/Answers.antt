@@ -1,5 +1,4 @@
 -- `bicycle::flat_check` meets its contract, case by case. Assumes nothing.
-use borrow.Author.Rules.{rules}
 use mathlib.Core.Path.{sym, ap, ◌∙◌}
 use Rattle.bicycle.specs.Flat.{check_refusal, flat_check}
 use Rattle.bicycle.proofs.flat_check.Goals as goal

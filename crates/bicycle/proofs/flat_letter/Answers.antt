@@ -1,7 +1,6 @@
 -- `bicycle::flat_letter` meets its contract: case by case. Assumes nothing.
 use mathlib.Core.Path.{sym, ap, ◌∙◌}
 use Rattle.bicycle.specs.Flat.{letter_refusal, flat_letter}
-use borrow.Author.Rules.{rules}
 use Rattle.bicycle.proofs.flat_letter.Goals as goal
 
 pub returns-in-Is : goal.returns-in-Is

@@ -1,5 +1,4 @@
 -- `bicycle::flat_lookup` meets its contract, case by case. Assumes nothing.
-use borrow.Author.Rules.{rules}
 use mathlib.Core.Path.{sym, ap, ap₂, ◌∙◌}
 use Rattle.bicycle.specs.Flat.{lookup_refusal, flat_lookup}
 use Rattle.bicycle.proofs.flat_lookup.Goals as goal

@@ -1,7 +1,6 @@
 -- `bicycle::flat_string` meets its contract: case by case. Assumes nothing.
 use mathlib.Core.Path.{sym, ap, ◌∙◌}
 use Rattle.bicycle.specs.Flat.{value_refusal, flat_string}
-use borrow.Author.Rules.{rules}
 use Rattle.bicycle.proofs.flat_string.Goals as goal
 
 pub returns-in-Is : goal.returns-in-Is

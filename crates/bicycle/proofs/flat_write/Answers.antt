@@ -1,7 +1,6 @@
 -- `bicycle::flat_write` meets its contract: case by case. Assumes nothing.
 use mathlib.Core.Path.{sym, ap, ap₂, ◌∙◌}
 use Rattle.bicycle.specs.Flat.{text_refusal, flat_write}
-use borrow.Author.Rules.{rules}
 use Rattle.bicycle.proofs.flat_write.Goals as goal
 
 pub returns-in-Is : goal.returns-in-Is

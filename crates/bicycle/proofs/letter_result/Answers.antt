@@ -1,5 +1,4 @@
 -- `bicycle::letter_result` meets its contract: letter by letter. Assumes nothing.
-use borrow.Author.Rules.{rules}
 use Rattle.bicycle.proofs.letter_result.Goals as goal
 
 pub returns-in-Letters : goal.returns-in-Letters

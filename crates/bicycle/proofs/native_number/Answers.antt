@@ -1,7 +1,6 @@
 -- `bicycle::native_number` meets its contract: a number below 540 as it is, and 540 for any other. Assumes nothing.
 use borrow.Author.Tests.{lt-ltb, le-ltb}
 use Rattle.native_measurement.specs.Natives.{natives}
-use borrow.Author.Rules.{rules}
 use Rattle.bicycle.proofs.native_number.Goals as goal
 
 pub returns-then-n-lt540 : goal.returns-then-n-lt540

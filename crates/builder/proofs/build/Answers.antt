@@ -1,5 +1,4 @@
 -- `builder::build` meets its contract: the tests stand in the order of the definition, and a refused call has written nothing. Assumes nothing.
-use borrow.Author.Rules.{rules}
 use mathlib.Core.Path.{sym, ◌∙◌}
 use borrow.Author.Tests.{eq-eqb, ne_eqb, not-true, not-false}
 use Rattle.pauli_string.specs.Strings.{qubits}
@@ -30,7 +29,6 @@ returns-then-not-is_matrix-2 c =
 pub build_pair-requires : goal.build_pair-requires
 build_pair-requires c =
     record { table_len = (c.if-table-ne-TABLE_LENGTH.false, c.if-queue-ne-TABLE_LENGTH.false); mx_value = (sym c.is_matrix.ensures ∙ not-false _ c.if-not-is_matrix.false-raw, sym c.is_matrix-2.ensures ∙ not-false _ c.if-not-is_matrix-2.false-raw) }
-
 
 pub returns : goal.returns
 returns c =

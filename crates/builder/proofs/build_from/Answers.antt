@@ -1,6 +1,5 @@
 -- `builder::build_from` meets its contract: the state after each part of the work is the model's, and what is answered is counted in it.
 -- Assumes nothing.
-use borrow.Author.Rules.{rules}
 use mathlib.Core.Path.{◌≡◌, sym, ap, subst, ◌∙◌}
 use Prim.Native.Nat.{◌^◌}
 use native.Mathlib.Omega.{arith}
@@ -27,7 +26,6 @@ searched-good c = built_good qubits twelve (at c.args.strings.now) c.requires.he
 pub search_unchecked-c-requires : goal.search_unchecked-c-requires
 search_unchecked-c-requires c =
     record { held = c.requires.held; good = (subst (Good qubits) (sym c.seeds_unchecked-n.ensures.0) (seeded_good qubits twelve (at c.args.strings.now) c.requires.held.0.small), c.seeds_unchecked-n.ensures.1) }
-
 
 pub overflow_add-result : goal.overflow_add-result
 overflow_add-result c =

@@ -1,5 +1,4 @@
 -- `builder::build_pair` meets its contract: the model reads the strings of the natives alone, and these are held. Assumes nothing.
-use borrow.Author.Rules.{rules}
 use mathlib.Core.Path.{ap, ◌∙◌}
 use Rattle.pauli_string.specs.Strings.{qubits}
 use Rattle.measurement.specs.Matrices.{side}
@@ -15,7 +14,6 @@ build_from-requires c =
     let a = c.args in
     let r = c.natives_unchecked-held in
     record { table_len = c.requires.table_len; held = (natives_held a.mx.now a.my.now r.result r.ensures, natives_flagged a.mx.now a.my.now r.result r.ensures) }
-
 
 pub returns : goal.returns
 returns c =

@@ -1,7 +1,6 @@
 -- `builder::deepest` meets its contract: the best so far is the greatest of the depths passed. Assumes nothing.
-use borrow.Author.Rules.{rules}
 use mathlib.Core.Path.{◌≡◌, sym, ap, ◌∙◌}
-use Prim.Native.Nat.{ℕ, ◌^◌, ◌-◌, ◌≤◌}
+use Prim.Native.Nat.{ℕ, ◌^◌}
 use native.Mathlib.Omega.{arith}
 use Rattle.bicycle_common.specs.Ranges.{most}
 use Rattle.bicycle_common.proofs.Ranges.{most_none, most_next}

@@ -1,11 +1,7 @@
 -- `builder::deepest` meets its contract: the best so far is the greatest of the depths passed. Assumes nothing.
-use borrow.Author.Rules.{rules}
-use mathlib.Core.Path.{◌≡◌, sym, ap, ◌∙◌}
-use mathlib.Core.Logic.{⊎_elim}
+use mathlib.Core.Path.{◌≡◌}
 use Prim.Native.Nat.{ℕ, ◌^◌, ◌-◌, ◌≤◌}
-use native.Mathlib.Omega.{arith}
 use Rattle.bicycle_common.specs.Ranges.{most}
-use Rattle.bicycle_common.proofs.Ranges.{most_none, most_next}
 use Rattle.pauli_string.specs.Strings.{qubits}
 use Rattle.table.specs.Bytes.{entry}
 use Rattle.table.specs.Entries.{depth}

@@ -2,7 +2,6 @@
 use mathlib.Core.Path.{sym, ap, ◌∙◌}
 use Rattle.bicycle_common.specs.Letters.{anticommuting_letters}
 use Rattle.compile.proofs.Expansions.{by_identity, first_bases, second_bases, by_refusal, by_letters}
-use borrow.Author.Rules.{rules}
 use Rattle.compile.proofs.rotation_by_unchecked.Goals as goal
 
 pub returns-in_default : goal.returns-in_default

@@ -1,7 +1,6 @@
 -- `compile::rotation_instructions` meets its contract: the string of the native is formed or refused, and then expanded. Assumes nothing.
 use mathlib.Core.Path.{sym, ◌∙◌}
 use Rattle.compile.proofs.Expansions.{with_string, without_string}
-use borrow.Author.Rules.{rules}
 use Rattle.compile.proofs.rotation_instructions.Goals as goal
 
 pub returns-in-Is : goal.returns-in-Is

@@ -1,11 +1,9 @@
 -- `digits::fill` meets its contract: after the strings below z, the neighbours of those without an entry are marked. Assumes nothing.
-use borrow.Author.Rules.{rules}
 use mathlib.Core.Path.{◌≡◌, subst}
-use Prim.Native.Nat.{◌^◌, ◌≤◌, ◌-◌}
+use Prim.Native.Nat.{◌^◌}
 use native.Mathlib.Omega.{arith}
-use lib.ListN.{length}
 use Rattle.pauli_string.specs.Strings.{qubits}
-use Rattle.digits.specs.Filter.{buckets, Filled}
+use Rattle.digits.specs.Filter.{Filled}
 use Rattle.digits.proofs.Filter.{filled_more, filled_covers}
 use Rattle.digits.proofs.fill.Goals as goal
 

@@ -1,5 +1,4 @@
 -- `digits::is_clear_unchecked` meets its contract: the bucket's digit is read out of its byte. Assumes nothing.
-use borrow.Author.Rules.{rules}
 use mathlib.Core.Path.{ap}
 use Prim.Native.Nat.{ℕ}
 use lib.Dec.{eqb}

@@ -1,13 +1,9 @@
 -- `digits::mark` meets its contract: each rotation sets one bucket, and none is cleared. Assumes nothing.
-use borrow.Author.Rules.{rules}
-use mathlib.Core.Path.{◌≡◌, subst}
-use Prim.Native.Nat.{ℕ, ◌≤◌, ◌-◌}
-use native.Mathlib.Omega.{arith}
+use mathlib.Core.Path.{◌≡◌}
+use Prim.Native.Nat.{◌≤◌, ◌-◌}
 use lib.ListN.{length}
-use Rattle.pauli_string.specs.Strings.{qubits, rotate}
-use Rattle.natives.specs.Arrays.{at}
-use Rattle.digits.specs.Filter.{buckets, bucket, Rises, Marked}
-use Rattle.digits.proofs.Filter.{marked_more}
+use Rattle.pauli_string.specs.Strings.{qubits}
+use Rattle.digits.specs.Filter.{buckets, Rises, Marked}
 use Rattle.digits.proofs.mark.Given as goal
 
 abbrev pub invariant-loop-i : goal.invariant-loop-i

@@ -1,5 +1,4 @@
 -- `digits::set_bucket` meets its contract: an or sets the bucket's digit in its byte, and leaves the others. Assumes nothing.
-use borrow.Author.Rules.{rules}
 use mathlib.Core.Path.{◌≡◌, sym, subst, ◌∙◌}
 use Prim.Native.Nat.{ℕ, ◌/◌, ◌%◌, ◌<◌}
 use native.Mathlib.Omega.{arith}

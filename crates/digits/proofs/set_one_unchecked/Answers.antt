@@ -1,5 +1,4 @@
 -- `digits::set_one_unchecked` meets its contract: an or sets the digit in its byte. Assumes nothing.
-use borrow.Author.Rules.{rules}
 use mathlib.Core.Path.{ap}
 use Prim.Native.Nat.{◌/◌, ◌%◌}
 use native.Mathlib.Omega.{arith}

@@ -1,9 +1,6 @@
 -- `digits::wipe` meets its contract: a store keeps the length. Assumes nothing.
-use borrow.Author.Rules.{rules}
-use mathlib.Core.Path.{◌≡◌}
-use Prim.Native.Nat.{◌≤◌, ◌-◌}
 use native.Mathlib.Omega.{arith}
-use lib.ListN.{length, length-set}
+use lib.ListN.{length-set}
 use Rattle.digits.proofs.wipe.Goals as goal
 
 pub loop-j-preserved : goal.loop-j-preserved

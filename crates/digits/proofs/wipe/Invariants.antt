@@ -1,9 +1,7 @@
 -- `digits::wipe` meets its contract: a store keeps the length. Assumes nothing.
-use borrow.Author.Rules.{rules}
 use mathlib.Core.Path.{◌≡◌}
 use Prim.Native.Nat.{◌≤◌, ◌-◌}
-use native.Mathlib.Omega.{arith}
-use lib.ListN.{length, length-set}
+use lib.ListN.{length}
 use Rattle.digits.proofs.wipe.Given as goal
 
 abbrev pub invariant-loop-j : goal.invariant-loop-j

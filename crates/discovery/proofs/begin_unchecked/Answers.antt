@@ -1,5 +1,4 @@
 -- `discovery::begin_unchecked` meets its contract: zeros everywhere, and then one value. Assumes nothing.
-use borrow.Author.Rules.{rules}
 use mathlib.Core.Path.{◌≡◌, sym, ap, ap₂, subst, ◌∙◌}
 use mathlib.Core.Bool.{true}
 use mathlib.Core.List.{List}

@@ -1,6 +1,5 @@
 -- `discovery::discover_unchecked` meets its contract: a string without an entry leaves room in the queue and for its value, and what is put is the
 -- model's. Assumes nothing.
-use borrow.Author.Rules.{rules}
 use mathlib.Core.Path.{◌≡◌, sym, ap, ◌∙◌}
 use mathlib.Core.List.{List}
 use Prim.Native.Nat.{◌+◌, ◌^◌, ◌<◌}

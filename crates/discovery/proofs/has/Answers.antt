@@ -1,5 +1,4 @@
 -- `discovery::has` meets its contract: the digit tells, or the table itself. Assumes nothing.
-use borrow.Author.Rules.{rules}
 use mathlib.Core.Path.{sym, ap, subst, ◌∙◌}
 use mathlib.Core.Bool.{not}
 use native.Mathlib.Decide.{ℕ_discrete}

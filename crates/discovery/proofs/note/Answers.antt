@@ -1,5 +1,4 @@
 -- `discovery::note` meets its contract: only a short queue has digits. Assumes nothing.
-use borrow.Author.Rules.{rules}
 use mathlib.Core.Path.{sym, ap, ◌∙◌}
 use mathlib.Core.Bool.{Bool}
 use Rattle.discovery.specs.Short.{noted}

@@ -1,5 +1,4 @@
 -- `discovery::seed` meets its contract: a nonzero string is discovered at depth 0 with the number kept for it. Assumes nothing.
-use borrow.Author.Rules.{rules}
 use mathlib.Core.Path.{sym, ap, ◌∙◌}
 use mathlib.Core.Bool.{true}
 use Prim.Native.Nat.{ℕ}
@@ -23,15 +22,17 @@ overflow_cast-k c =
 
 pub discover_unchecked-requires : goal.discover_unchecked-requires
 discover_unchecked-requires c =
-    record { good = (
-    c.requires.good.0,
     record {
-      small = c.requires.n_lt_natives.1.small c.args.n;
-      native_below = omega (arith, c.requires.n_lt_natives.0, c.kept_number_unchecked-k.ensures, (keeper_for (at c.args.strings.now) c.args.n c.requires.n_lt_natives.0).below);
-      low = omega arith;
-    },
-  ); notes = (c.requires.good.1, c.requires.good.2) }
-
+      good = (
+        c.requires.good.0,
+        record {
+          small = c.requires.n_lt_natives.1.small c.args.n;
+          native_below = omega (arith, c.requires.n_lt_natives.0, c.kept_number_unchecked-k.ensures, (keeper_for (at c.args.strings.now) c.args.n c.requires.n_lt_natives.0).below);
+          low = omega arith;
+        },
+      );
+      notes = (c.requires.good.1, c.requires.good.2);
+    }
 
 pub returns : goal.returns
 returns c =

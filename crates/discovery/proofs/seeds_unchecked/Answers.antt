@@ -1,17 +1,15 @@
 -- `discovery::seeds_unchecked` meets its contract: after n natives the state is the model's, and in range. Assumes nothing.
-use borrow.Author.Rules.{rules}
 use mathlib.Core.Path.{◌≡◌, refl, sym, ap, subst, ◌∙◌}
 use mathlib.Core.Bool.{true}
-use Prim.Native.Nat.{ℕ, ◌≤◌, ◌-◌}
+use Prim.Native.Nat.{ℕ}
 use native.Mathlib.Omega.{arith}
-use lib.ListN.{length}
 use Rattle.bicycle_common.specs.Ranges.{in_turn}
 use Rattle.bicycle_common.proofs.Ranges.{in_turn_none, in_turn_next}
 use Rattle.pauli_string.specs.Strings.{qubits}
 use Rattle.natives.specs.Arrays.{at}
 use Rattle.discovery.specs.Model.{State, state, begun, seed, seeded}
 use Rattle.discovery.specs.States.{twelve, Good}
-use Rattle.discovery.specs.Short.{strung, Notes}
+use Rattle.discovery.specs.Short.{strung}
 use Rattle.discovery.proofs.Short.{seed_count}
 use Rattle.discovery.proofs.States.{begun_good, seed_good}
 use Rattle.discovery.proofs.seeds_unchecked.Goals as goal
@@ -23,7 +21,6 @@ loop-n-init c =
 pub seed-c-requires : goal.seed-c-requires
 seed-c-requires c =
     record { n_lt_natives = (c.loop-n-test.true, c.requires.held); good = (c.loop-n.invariant.3, c.loop-n.invariant.6, λ e. omega (arith, c.loop-n.invariant.5, c.loop-n-test.true)) }
-
 
 pub loop-n-preserved : goal.loop-n-preserved
 loop-n-preserved c =

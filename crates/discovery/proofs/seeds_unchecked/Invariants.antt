@@ -1,19 +1,14 @@
 -- `discovery::seeds_unchecked` meets its contract: after n natives the state is the model's, and in range. Assumes nothing.
-use borrow.Author.Rules.{rules}
-use mathlib.Core.Path.{◌≡◌, refl, sym, ap, subst, ◌∙◌}
+use mathlib.Core.Path.{◌≡◌}
 use mathlib.Core.Bool.{true}
-use Prim.Native.Nat.{ℕ, ◌≤◌, ◌-◌}
-use native.Mathlib.Omega.{arith}
+use Prim.Native.Nat.{◌≤◌, ◌-◌}
 use lib.ListN.{length}
 use Rattle.bicycle_common.specs.Ranges.{in_turn}
-use Rattle.bicycle_common.proofs.Ranges.{in_turn_none, in_turn_next}
 use Rattle.pauli_string.specs.Strings.{qubits}
 use Rattle.natives.specs.Arrays.{at}
-use Rattle.discovery.specs.Model.{State, state, begun, seed, seeded}
-use Rattle.discovery.specs.States.{twelve, Good}
+use Rattle.discovery.specs.Model.{state, begun, seed}
+use Rattle.discovery.specs.States.{Good}
 use Rattle.discovery.specs.Short.{strung, Notes}
-use Rattle.discovery.proofs.Short.{seed_count}
-use Rattle.discovery.proofs.States.{begun_good, seed_good}
 use Rattle.discovery.proofs.seeds_unchecked.Given as goal
 
 abbrev pub invariant-loop-n : goal.invariant-loop-n

@@ -1,6 +1,5 @@
 -- `display::put_instruction` meets its contract: the front of the nine bytes is the instruction's text. Assumes nothing.
 use native.Mathlib.Omega.{arith}
-use borrow.Author.Rules.{rules}
 use Rattle.display.proofs.Texts.{shown_inside, shown_front, shown_short}
 use Rattle.display.proofs.put_instruction.Goals as goal
 

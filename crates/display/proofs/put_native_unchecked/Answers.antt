@@ -1,7 +1,6 @@
 -- `display::put_native_unchecked` meets its contract: three instructions, or none of a refusal. Assumes nothing.
 use native.Mathlib.Omega.{arith}
 use Rattle.display.proofs.Texts.{none}
-use borrow.Author.Rules.{rules}
 use Rattle.display.proofs.put_native_unchecked.Goals as goal
 
 pub returns-in-Is : goal.returns-in-Is

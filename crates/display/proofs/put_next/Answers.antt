@@ -1,7 +1,6 @@
 -- `display::put_next` meets its contract: the space stands before the instruction. Assumes nothing.
 use native.Mathlib.Omega.{arith}
 use Rattle.text.proofs.Puts.{then}
-use borrow.Author.Rules.{rules}
 use Rattle.display.proofs.put_next.Goals as goal
 
 pub returns : goal.returns

@@ -2,7 +2,6 @@
 use native.Mathlib.Omega.{arith}
 use Rattle.text.proofs.Puts.{then}
 use Rattle.display.proofs.Texts.{three}
-use borrow.Author.Rules.{rules}
 use Rattle.display.proofs.put_three.Goals as goal
 
 pub returns : goal.returns

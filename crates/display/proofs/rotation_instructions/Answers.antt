@@ -3,7 +3,6 @@ use Rattle.text.proofs.Fronts.{written_refused}
 use Rattle.display.specs.Texts.{rotation_displayed}
 use Rattle.display.proofs.Texts.{rotation_displayed_law}
 use mathlib.Core.Path.{sym, ap, ◌∙◌}
-use borrow.Author.Rules.{rules}
 use Rattle.display.proofs.rotation_instructions.Goals as goal
 
 pub returns-in-Refused : goal.returns-in-Refused

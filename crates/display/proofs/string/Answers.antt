@@ -2,7 +2,6 @@
 use native.Mathlib.Omega.{arith}
 use Rattle.text.proofs.Fronts.{written_refused}
 use Rattle.display.proofs.Texts.{printed_length, string_displayed_law, string_refused}
-use borrow.Author.Rules.{rules}
 use Rattle.display.proofs.string.Goals as goal
 
 pub write_bytes-requires : goal.write_bytes-requires

@@ -1,6 +1,5 @@
 -- `listing::list` meets its contract: what the reader answers can be printed, and its text is the output. Assumes nothing.
 use Rattle.listing.proofs.Answers.{read_printable, read_text_law}
-use borrow.Author.Rules.{rules}
 use Rattle.listing.proofs.list.Goals as goal
 
 pub write-requires : goal.write-requires

@@ -1,10 +1,7 @@
 -- `listing::put_head` meets its contract: four pieces, one behind the other. Assumes nothing.
 use native.Mathlib.Omega.{arith}
 use Rattle.text.proofs.Puts.{then}
-use borrow.Author.Rules.{rules}
 use Rattle.listing.proofs.put_head.Goals as goal
-
-
 
 pub returns : goal.returns
 returns c =

@@ -3,9 +3,7 @@ use native.Mathlib.Omega.{arith}
 use Rattle.text.proofs.Puts.{then}
 use Rattle.display.proofs.Texts.{printed_length}
 use Rattle.listing.proofs.Texts.{printed_bytes}
-use borrow.Author.Rules.{rules}
 use Rattle.listing.proofs.put_measures.Goals as goal
-
 
 pub put_bytes_unchecked-end-requires : goal.put_bytes_unchecked-end-requires
 put_bytes_unchecked-end-requires c = omega (arith, c.put_bytes_unchecked-value.ensures.moves, printed_length c.args.measures.0 _ c.display-t.ensures)

@@ -1,7 +1,6 @@
 -- `listing::put_number_line` meets its contract: the name, the digits and the line's end are put one behind the other. Assumes nothing.
 use native.Mathlib.Omega.{arith}
 use Rattle.text.proofs.Puts.{then}
-use borrow.Author.Rules.{rules}
 use Rattle.listing.proofs.put_number_line.Goals as goal
 
 pub returns : goal.returns

@@ -1,6 +1,5 @@
 -- `listing::put_plan` meets its contract: the head and the rotations are the listing, by the array of the natives' strings. Assumes nothing.
 use Rattle.listing.proofs.Answers.{plan_put}
-use borrow.Author.Rules.{rules}
 use Rattle.listing.proofs.put_plan.Goals as goal
 
 pub returns : goal.returns

@@ -1,13 +1,11 @@
 -- `listing::put_rotations` meets its contract: after i rotations the text of the first i is put, at most 71 bytes for each. Assumes nothing.
 use mathlib.Core.Path.{◌≡◌}
-use Prim.Native.Nat.{◌+◌, ◌-◌, ◌*◌, ◌≤◌, ◌<◌}
+use Prim.Native.Nat.{◌<◌}
 use native.Mathlib.Omega.{arith}
-use lib.ListN.{length, take}
+use lib.ListN.{length}
 use borrow.Author.Rules.{rules}
-use Rattle.text.specs.Puts.{Put}
 use Rattle.text.proofs.Puts.{put_length}
 use Rattle.natives.specs.Arrays.{at}
-use Rattle.listing.specs.Listings.{rotations_text}
 use Rattle.listing.proofs.Texts.{rotations_none, rotations_more}
 use Rattle.listing.proofs.put_rotations.Goals as goal
 

@@ -1,6 +1,5 @@
 -- `listing::write` meets its contract: an empty buffer tells the length, and then there is room for all of the text or nothing is written. Assumes nothing.
 use Rattle.text.proofs.Fronts.{written_short, written_whole}
-use borrow.Author.Rules.{rules}
 use Rattle.listing.proofs.write.Goals as goal
 
 pub returns-then-out-needed : goal.returns-then-out-needed

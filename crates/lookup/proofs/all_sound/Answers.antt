@@ -1,5 +1,4 @@
 -- `lookup::all_sound` meets its contract: each is tested in turn, and a walk that does not fall is not good. Assumes nothing.
-use borrow.Author.Rules.{rules}
 use mathlib.Core.Path.{refl, sym, ap, ◌∙◌}
 use mathlib.Core.Bool.{Bool, ◌&&◌, and-false}
 use borrow.Author.Tests.{not-true, not-false}

@@ -1,5 +1,4 @@
 -- `lookup::best` meets its contract: the better of the first two, then the better of that and the third. Assumes nothing.
-use borrow.Author.Rules.{rules}
 use mathlib.Core.Path.{sym, ap, subst, ◌∙◌}
 use Prim.Native.Nat.{ℕ, ◌^◌, ◌<◌}
 use Rattle.pauli_string.specs.Strings.{qubits}

@@ -1,5 +1,4 @@
 -- `lookup::candidate` meets its contract: a string with a letter set is a string. Assumes nothing.
-use borrow.Author.Rules.{rules}
 use mathlib.Core.Path.{sym, subst}
 use Prim.Native.Nat.{ℕ, ◌^◌, ◌<◌}
 use Rattle.pauli_string.specs.Strings.{qubits}

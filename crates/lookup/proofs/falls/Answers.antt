@@ -2,16 +2,12 @@
 -- Assumes nothing.
 use mathlib.Core.Bool.{true≢false}
 use mathlib.Core.Path.{ap}
-use borrow.Author.Rules.{rules}
-use Prim.Native.Nat.{◌-◌}
 use borrow.Author.Tests.{not-true, not-false}
 use native.Mathlib.Omega.{arith}
-use Rattle.pauli_string.specs.Strings.{qubits}
 use Rattle.natives.specs.Cells.{shown}
 use Rattle.natives.proofs.Cells.{shown_lt}
-use Rattle.table.specs.Bytes.{entry}
 use Rattle.table.specs.Entries.{depth}
-use Rattle.lookup.proofs.Steps.{Place, place_first, place_unsound, next_inside, place_next}
+use Rattle.lookup.proofs.Steps.{place_first, place_unsound, next_inside, place_next}
 use Rattle.lookup.proofs.falls.Goals as goal
 
 pub loop-k-init : goal.loop-k-init

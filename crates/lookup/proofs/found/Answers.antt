@@ -1,5 +1,4 @@
 -- `lookup::found` meets its contract: the room is tested first, and a good walk's end has a value that names its native. Assumes nothing.
-use borrow.Author.Rules.{rules}
 use mathlib.Core.Path.{◌≡◌, sym, ap, subst, ◌∙◌}
 use Prim.Native.Nat.{ℕ, ◌*◌, ◌/◌, ◌-◌, ◌^◌, ◌<◌}
 use native.Mathlib.Omega.{arith}
@@ -44,7 +43,6 @@ returns-then-out-needed c =
 pub write_rotations-bottom-requires : goal.write_rotations-bottom-requires
 write_rotations-bottom-requires c =
     record { table_len = c.requires.table_len; d_value = (ap depth c.entry_unchecked-d.ensures, c.if-out-needed.false, c.requires.p_value) }
-
 
 pub entry_unchecked-requires : goal.entry_unchecked-requires
 entry_unchecked-requires c =

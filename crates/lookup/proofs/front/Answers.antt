@@ -1,5 +1,4 @@
 -- `lookup::front` meets its contract: the front has the length of what was written. Assumes nothing.
-use borrow.Author.Rules.{rules}
 use mathlib.Core.Path.{refl}
 use lib.ListN.{length}
 use Rattle.pauli_string.specs.Strings.{qubits}

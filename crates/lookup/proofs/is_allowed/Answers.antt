@@ -1,5 +1,4 @@
 -- `lookup::is_allowed` meets its contract: one test for each kind of lookup. Assumes nothing.
-use borrow.Author.Rules.{rules}
 use mathlib.Core.Path.{refl, sym, ◌∙◌}
 use borrow.Author.Tests.{eq-eqb, ne_eqb}
 use Rattle.lookup.proofs.is_allowed.Goals as goal

@@ -1,16 +1,11 @@
 -- `lookup::is_good` meets its contract: the string and the value are those of the walk's place, and every place before it stands. Assumes
 -- nothing.
 use mathlib.Core.Path.{sym, ap, ◌∙◌}
-use borrow.Author.Rules.{rules}
-use Prim.Native.Nat.{◌-◌}
 use borrow.Author.Tests.{not-true, not-false}
 use native.Mathlib.Omega.{arith}
-use Rattle.pauli_string.specs.Strings.{qubits}
-use Rattle.natives.specs.Cells.{shown}
 use Rattle.natives.proofs.Cells.{shown_lt}
-use Rattle.table.specs.Bytes.{entry}
 use Rattle.table.specs.Entries.{depth}
-use Rattle.lookup.proofs.Steps.{Place, Stood, place_first, place_valid, place_bad, stood_next, place_last, next_inside, place_next}
+use Rattle.lookup.proofs.Steps.{place_first, place_valid, place_bad, stood_next, place_last, next_inside, place_next}
 use Rattle.lookup.proofs.is_good.Goals as goal
 
 pub loop-k-init : goal.loop-k-init
@@ -38,11 +33,10 @@ entry_unchecked-v-requires-in-loop-k c =
     (next_inside c.loop-k.invariant.0 (shown_lt c.args.cells.now) c.next-at.ensures, c.requires.0)
 
 pub loop-k-preserved : goal.loop-k-preserved
-loop-k-preserved c =
-    (
-      place_next c.loop-k.invariant.0 (shown_lt c.args.cells.now) c.next-at.ensures c.loop-k-test.true c.entry_unchecked-v-in-loop-k.ensures,
-      stood_next c.loop-k.invariant.0 c.loop-k.invariant.1 (sym c.stands.ensures ∙ not-false _ c.if-not-stands.false-raw),
-    )
+loop-k-preserved c = (
+  place_next c.loop-k.invariant.0 (shown_lt c.args.cells.now) c.next-at.ensures c.loop-k-test.true c.entry_unchecked-v-in-loop-k.ensures,
+  stood_next c.loop-k.invariant.0 c.loop-k.invariant.1 (sym c.stands.ensures ∙ not-false _ c.if-not-stands.false-raw),
+)
 
 pub stands-requires-2 : goal.stands-requires-2
 stands-requires-2 c = c.requires.2

@@ -1,5 +1,4 @@
 -- `lookup::is_judged` meets its contract: one test for each kind of lookup. Assumes nothing.
-use borrow.Author.Rules.{rules}
 use mathlib.Core.Path.{sym, ap, ◌∙◌}
 use mathlib.Core.Bool.{Bool}
 use Rattle.pauli_string.specs.Strings.{qubits}

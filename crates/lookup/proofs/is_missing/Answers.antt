@@ -1,5 +1,4 @@
 -- `lookup::is_missing` meets its contract: one test for each kind of lookup. Assumes nothing.
-use borrow.Author.Rules.{rules}
 use mathlib.Core.Path.{sym, ap, ◌∙◌}
 use mathlib.Core.Bool.{Bool}
 use Prim.Native.Nat.{ℕ}

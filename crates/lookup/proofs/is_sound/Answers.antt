@@ -1,5 +1,4 @@
 -- `lookup::is_sound` meets its contract: a string without an entry is sound, another if its walk is good. Assumes nothing.
-use borrow.Author.Rules.{rules}
 use mathlib.Core.Path.{sym, ◌∙◌}
 use Rattle.pauli_string.specs.Strings.{qubits}
 use Rattle.natives.specs.Cells.{shown}

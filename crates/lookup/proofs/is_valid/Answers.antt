@@ -1,5 +1,4 @@
 -- `lookup::is_valid` meets its contract: the tests stand in the definition's order, and the kept flag is found on demand. Assumes nothing.
-use borrow.Author.Rules.{rules}
 use mathlib.Core.Path.{sym, refl, ap, ◌∙◌}
 use Prim.Native.Nat.{ℕ}
 use lib.Dec.{eqb}

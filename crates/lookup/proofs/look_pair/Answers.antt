@@ -1,5 +1,4 @@
 -- `lookup::look_pair` meets its contract: a lookup reads the strings of the natives alone, and these are what the cells show. Assumes nothing.
-use borrow.Author.Rules.{rules}
 use mathlib.Core.Path.{sym, subst, ◌∙◌}
 use lib.ListN.{length}
 use Rattle.bicycle_common.specs.declared.Refusal.TheVariants.{NoEntry}
@@ -27,7 +26,6 @@ returns-then-is_missing c =
 pub look_sought-requires : goal.look_sought-requires
 look_sought-requires c =
     record { table_len = (c.requires.table_len.0, c.requires.table_len.1, c.cells_unchecked-cells.ensures.0); p_value = sym c.is_missing.ensures ∙ c.if-is_missing.false }
-
 
 pub returns : goal.returns
 returns c =

@@ -1,5 +1,4 @@
 -- `lookup::look_sought` meets its contract: what is judged has a good walk, and that is found. Assumes nothing.
-use borrow.Author.Rules.{rules}
 use mathlib.Core.Path.{◌≡◌, sym, ap, subst, ◌∙◌}
 use mathlib.Core.Bool.{true}
 use Prim.Native.Nat.{ℕ, ◌^◌, ◌<◌}
@@ -10,7 +9,7 @@ use Rattle.bicycle_common.specs.declared.Refusal.TheVariants.{BadEntry}
 use Rattle.pauli_string.specs.Strings.{qubits}
 use Rattle.natives.specs.Cells.{shown}
 use Rattle.table.specs.Bytes.{entry}
-use Rattle.lookup.specs.Walks.{good, judged, winner}
+use Rattle.lookup.specs.Walks.{good, judged}
 use Rattle.lookup.specs.Answers.{Lookup, Leaves, found, sought}
 use Rattle.lookup.proofs.Walks.{winner_good, winner_string}
 use Rattle.lookup.proofs.Answers.{refuses, sought_bad, sought_found}
@@ -36,12 +35,14 @@ pub found-requires : goal.found-requires
 found-requires c =
     let a = c.args in
     let z = c.winner-w.ensures in
-    record { table_len = (
+    record {
+      table_len = (
         c.requires.table_len.0,
         subst (λ (w : ℕ). w < 4 ^ qubits) (sym z) (winner_string qubits (e (goal.at.found-requires c).Start) a.any a.p (lit< tt) c.requires.table_len.1),
         c.requires.table_len.2,
-      ); p_value = subst (λ (w : ℕ). good qubits (f (goal.at.found-requires c).Start) (e (goal.at.found-requires c).Start) w ≡ true) (sym z) (winner_good qubits (f (goal.at.found-requires c).Start) (e (goal.at.found-requires c).Start) a.any a.p c.requires.p_value (is-judged (goal.at.found-requires c).Else-not-is_judged)) }
-
+      );
+      p_value = subst (λ (w : ℕ). good qubits (f (goal.at.found-requires c).Start) (e (goal.at.found-requires c).Start) w ≡ true) (sym z) (winner_good qubits (f (goal.at.found-requires c).Start) (e (goal.at.found-requires c).Start) a.any a.p c.requires.p_value (is-judged (goal.at.found-requires c).Else-not-is_judged));
+    }
 
 pub returns : goal.returns
 returns c =

@@ -1,5 +1,4 @@
 -- `lookup::look_up` meets its contract: the tests stand in the definition's order, and a refused call has written nothing. Assumes nothing.
-use borrow.Author.Rules.{rules}
 use mathlib.Core.Path.{◌≡◌, sym, subst, ◌∙◌}
 use lib.ListN.{length}
 use borrow.Author.Tests.{lt-ltb, le-ltb}
@@ -42,7 +41,6 @@ look_pair-requires c =
     let a = c.args in
     let g = given_done qubits side a.table.now a.mx.now a.my.now (done (goal.at.look_pair-requires c).In_default) in
     record { table_len = (g.0, c.if-p-ge-STRINGS.false); mx_value = (g.1, g.2) }
-
 
 pub returns : goal.returns
 returns c =

@@ -1,5 +1,4 @@
 -- `lookup::next` meets its contract: a rotation by the string of native n. Assumes nothing.
-use borrow.Author.Rules.{rules}
 use mathlib.Core.Path.{ap, subst, sym, ◌∙◌}
 use Prim.Native.Nat.{ℕ, ◌^◌, ◌<◌}
 use Rattle.pauli_string.specs.Strings.{qubits, rotate}

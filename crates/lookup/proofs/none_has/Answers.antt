@@ -1,5 +1,4 @@
 -- `lookup::none_has` meets its contract: three values that add up to 0 are all 0. Assumes nothing.
-use borrow.Author.Rules.{rules}
 use mathlib.Core.Path.{◌∙◌}
 use Prim.Native.Nat.{ℕ, ◌+◌}
 use lib.Dec.{eqb}

@@ -1,5 +1,4 @@
 -- `lookup::put_number` meets its contract: two stores, in order. Assumes nothing.
-use borrow.Author.Rules.{rules}
 use native.Mathlib.Omega.{arith}
 use lib.ListN.{length-set}
 use Rattle.lookup.proofs.put_number.Goals as goal

@@ -1,5 +1,4 @@
 -- `lookup::stands` meets its contract: the depth is tested first. Assumes nothing.
-use borrow.Author.Rules.{rules}
 use mathlib.Core.Path.{sym, ◌∙◌}
 use Rattle.pauli_string.specs.Strings.{qubits}
 use Rattle.natives.specs.Cells.{shown}

@@ -1,5 +1,4 @@
 -- `lookup::winner` meets its contract: the best candidate, or the string itself. Assumes nothing.
-use borrow.Author.Rules.{rules}
 use mathlib.Core.Path.{sym, ap, ◌∙◌}
 use mathlib.Core.Bool.{Bool}
 use Rattle.pauli_string.specs.Strings.{qubits}

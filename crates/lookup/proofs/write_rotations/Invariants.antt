@@ -1,12 +1,9 @@
 -- `lookup::write_rotations` meets its contract: with some rotations left, the string is that of the walk's place, and those behind them are
 -- written. Assumes nothing.
-use borrow.Author.Rules.{rules}
-use native.Mathlib.Omega.{arith}
 use Rattle.pauli_string.specs.Strings.{qubits}
 use Rattle.natives.specs.Cells.{shown}
-use Rattle.natives.proofs.Cells.{shown_lt}
 use Rattle.table.specs.Bytes.{entry}
-use Rattle.lookup.proofs.Steps.{Writing, writing_first, writing_names, writing_long, writing_next, writing_last}
+use Rattle.lookup.proofs.Steps.{Writing}
 use Rattle.lookup.proofs.write_rotations.Given as goal
 
 abbrev pub invariant-loop-left : goal.invariant-loop-left

@@ -1,7 +1,7 @@
 -- `measurement::dot` meets its contract: the loop adds one product of two digits a turn, so the sum stays at most 6. Assumes nothing.
 use borrow.Author.Rules.{rules}
 use mathlib.Core.Path.{◌≡◌, refl}
-use Prim.Native.Nat.{ℕ, ◌-◌, ◌*◌, ◌≤◌}
+use Prim.Native.Nat.{◌*◌, ◌≤◌}
 use native.Mathlib.Omega.{arith}
 use Rattle.bicycle_common.specs.Ranges.{sum}
 use Rattle.bicycle_common.proofs.Ranges.{sum_next}

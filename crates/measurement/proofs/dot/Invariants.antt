@@ -1,12 +1,8 @@
 -- `measurement::dot` meets its contract: the loop adds one product of two digits a turn, so the sum stays at most 6. Assumes nothing.
-use borrow.Author.Rules.{rules}
-use mathlib.Core.Path.{◌≡◌, refl}
+use mathlib.Core.Path.{◌≡◌}
 use Prim.Native.Nat.{ℕ, ◌-◌, ◌*◌, ◌≤◌}
-use native.Mathlib.Omega.{arith}
 use Rattle.bicycle_common.specs.Ranges.{sum}
-use Rattle.bicycle_common.proofs.Ranges.{sum_next}
-use Rattle.measurement.specs.Matrices.{of_rows, mul}
-use Rattle.measurement.proofs.Matrices.{product_le}
+use Rattle.measurement.specs.Matrices.{of_rows}
 use Rattle.measurement.proofs.dot.Given as goal
 
 abbrev pub invariant-loop-j : goal.invariant-loop-j

@@ -1,10 +1,9 @@
 -- `measurement::first_column` meets its contract: the loop copies the first number of each row. Assumes nothing.
-use borrow.Author.Rules.{rules}
-use mathlib.Core.Path.{◌≡◌, refl, ◌∙◌}
-use Prim.Native.Nat.{ℕ, ◌-◌}
+use mathlib.Core.Path.{refl, ◌∙◌}
+use Prim.Native.Nat.{ℕ}
 use native.Mathlib.Omega.{arith}
 use Rattle.bicycle_common.proofs.Ranges.{listed_all}
-use Rattle.bicycle_common.proofs.Filled.{Filled, filled_none, filled_more, filled_each}
+use Rattle.bicycle_common.proofs.Filled.{filled_none, filled_more, filled_each}
 use Rattle.measurement.specs.Matrices.{of_rows}
 use Rattle.measurement.specs.Measures.{action}
 use Rattle.measurement.proofs.first_column.Goals as goal

@@ -1,12 +1,8 @@
 -- `measurement::first_row` meets its contract: the loop copies the numbers of row 0. Assumes nothing.
-use borrow.Author.Rules.{rules}
-use mathlib.Core.Path.{◌≡◌, refl, ◌∙◌}
+use mathlib.Core.Path.{◌≡◌}
 use Prim.Native.Nat.{ℕ, ◌-◌}
-use native.Mathlib.Omega.{arith}
-use Rattle.bicycle_common.proofs.Ranges.{listed_all}
-use Rattle.bicycle_common.proofs.Filled.{Filled, filled_none, filled_more, filled_each}
+use Rattle.bicycle_common.proofs.Filled.{Filled}
 use Rattle.measurement.specs.Matrices.{of_rows}
-use Rattle.measurement.specs.Measures.{action}
 use Rattle.measurement.proofs.first_row.Given as goal
 
 abbrev pub invariant-loop-j : goal.invariant-loop-j

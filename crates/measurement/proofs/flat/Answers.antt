@@ -1,10 +1,7 @@
 -- `measurement::flat` meets its contract: the loop copies the numbers in the order of the rows. Assumes nothing.
-use borrow.Author.Rules.{rules}
-use mathlib.Core.Path.{◌≡◌, refl}
-use Prim.Native.Nat.{ℕ, ◌-◌, ◌/◌, ◌%◌}
+use mathlib.Core.Path.{refl}
 use native.Mathlib.Omega.{arith}
-use Rattle.bicycle_common.proofs.Filled.{Filled, filled_none, filled_more, filled_all}
-use Rattle.measurement.specs.Matrices.{of_rows}
+use Rattle.bicycle_common.proofs.Filled.{filled_none, filled_more, filled_all}
 use Rattle.measurement.proofs.flat.Goals as goal
 
 pub loop-q-init : goal.loop-q-init

@@ -1,5 +1,4 @@
 -- `measurement::is_binary` meets its contract: the numbers by rows are good exactly when the matrix is. Assumes nothing.
-use borrow.Author.Rules.{rules}
 use mathlib.Core.Path.{ap, ◌∙◌}
 use Rattle.measurement.specs.Matrices.{side, is_bytes}
 use Rattle.measurement.proofs.Matrices.{by_rows_binary}

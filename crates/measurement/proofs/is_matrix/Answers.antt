@@ -1,5 +1,4 @@
 -- `measurement::is_matrix` meets its contract: bytes of the right length are a matrix where none is over 1. Assumes nothing.
-use borrow.Author.Rules.{rules}
 use mathlib.Core.Path.{sym, ap, ◌∙◌}
 use Prim.Native.Nat.{ℕ}
 use lib.Dec.{eqb}

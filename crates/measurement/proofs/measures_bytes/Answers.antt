@@ -1,6 +1,5 @@
 -- `measurement::measures_bytes` meets its contract: the two tests decide 3, and the matrices that are read have the numbers of the bytes.
 -- Assumes nothing.
-use borrow.Author.Rules.{rules}
 use mathlib.Core.Path.{sym, ◌∙◌}
 use native.Mathlib.Omega.{arith}
 use borrow.Author.Tests.{not-true, not-false}

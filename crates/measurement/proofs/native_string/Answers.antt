@@ -1,5 +1,4 @@
 -- `measurement::native_string` meets its contract: the number is a native's or not, as `from_number` answers. Assumes nothing.
-use borrow.Author.Rules.{rules}
 use mathlib.Core.Path.{sym, ◌∙◌}
 use Rattle.measurement.specs.Matrices.{of_rows}
 use Rattle.measurement.proofs.Strings.{no_native, the_string}

@@ -1,12 +1,7 @@
 -- `measurement::of_bytes` meets its contract: the loop reads one row a turn. Assumes nothing.
-use borrow.Author.Rules.{rules}
-use mathlib.Core.Path.{◌≡◌, refl}
-use mathlib.Core.List.{List, []}
-use Prim.Native.Nat.{ℕ, ◌-◌, ◌<◌}
+use mathlib.Core.Path.{refl}
 use native.Mathlib.Omega.{arith}
-use lib.ListN.{get_or}
-use Rattle.bicycle_common.proofs.Filled.{Filled, filled_none, filled_more, filled_each}
-use Rattle.measurement.specs.Matrices.{of_bytes}
+use Rattle.bicycle_common.proofs.Filled.{filled_none, filled_more, filled_each}
 use Rattle.measurement.proofs.of_bytes.Goals as goal
 
 pub loop-i-init : goal.loop-i-init

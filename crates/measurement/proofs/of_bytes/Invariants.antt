@@ -1,11 +1,9 @@
 -- `measurement::of_bytes` meets its contract: the loop reads one row a turn. Assumes nothing.
-use borrow.Author.Rules.{rules}
-use mathlib.Core.Path.{◌≡◌, refl}
+use mathlib.Core.Path.{◌≡◌}
 use mathlib.Core.List.{List, []}
 use Prim.Native.Nat.{ℕ, ◌-◌, ◌<◌}
-use native.Mathlib.Omega.{arith}
 use lib.ListN.{get_or}
-use Rattle.bicycle_common.proofs.Filled.{Filled, filled_none, filled_more, filled_each}
+use Rattle.bicycle_common.proofs.Filled.{Filled}
 use Rattle.measurement.specs.Matrices.{of_bytes}
 use Rattle.measurement.proofs.of_bytes.Given as goal
 

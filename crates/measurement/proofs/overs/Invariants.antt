@@ -1,14 +1,6 @@
 -- `measurement::overs` meets its contract: the loop adds 1 for each number over 1. Assumes nothing.
-use borrow.Author.Rules.{rules}
-use mathlib.Core.Path.{◌≡◌, refl, sym, ap, ap₂, ◌∙◌}
-use Prim.Native.Nat.{ℕ, ◌+◌, ◌-◌, ◌≤◌}
-use native.Mathlib.Omega.{arith}
-use lib.Dec.{ltb}
-use lib.ListN.{get_or}
-use Rattle.bicycle_common.specs.Ranges.{sum}
-use Rattle.bicycle_common.specs.Letters.{flag}
-use Rattle.bicycle_common.proofs.Ranges.{sum_next, sum_le}
-use Rattle.bicycle_common.proofs.Letters.{flag_le}
+use mathlib.Core.Path.{◌≡◌}
+use Prim.Native.Nat.{◌-◌, ◌≤◌}
 use Rattle.measurement.specs.Overs.{overs}
 use Rattle.measurement.proofs.overs.Given as goal
 

@@ -1,5 +1,4 @@
 -- `measurement::packed_unchecked` meets its contract: the sum is written out, and six digits of at most 1 make at most 63. Assumes nothing.
-use borrow.Author.Rules.{rules}
 use mathlib.Core.List.{List}
 use Prim.Native.Nat.{ℕ, ◌+◌, ◌*◌, ◌<◌, ◌≤◌}
 use native.Mathlib.Omega.{arith}

@@ -1,5 +1,4 @@
 -- `measurement::place_unchecked` meets its contract: the code is the definition; both products are at most 63 * 65. Assumes nothing.
-use borrow.Author.Rules.{rules}
 use mathlib.Core.Path.{refl}
 use Prim.Native.Nat.{◌+◌, ◌*◌, ◌≤◌}
 use native.Mathlib.Omega.{arith}

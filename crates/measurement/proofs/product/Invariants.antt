@@ -1,11 +1,9 @@
 -- `measurement::product` meets its contract: the loop forms one row a turn. Assumes nothing.
-use borrow.Author.Rules.{rules}
-use mathlib.Core.Path.{◌≡◌, refl}
+use mathlib.Core.Path.{◌≡◌}
 use mathlib.Core.List.{List, []}
 use Prim.Native.Nat.{ℕ, ◌-◌, ◌<◌}
-use native.Mathlib.Omega.{arith}
 use lib.ListN.{get_or}
-use Rattle.bicycle_common.proofs.Filled.{Filled, filled_none, filled_more, filled_each}
+use Rattle.bicycle_common.proofs.Filled.{Filled}
 use Rattle.measurement.specs.Matrices.{of_rows, mul}
 use Rattle.measurement.proofs.product.Given as goal
 

@@ -1,9 +1,7 @@
 -- `measurement::product_row` meets its contract: the loop forms one number of the row a turn. Assumes nothing.
-use borrow.Author.Rules.{rules}
-use mathlib.Core.Path.{◌≡◌, refl}
+use mathlib.Core.Path.{◌≡◌}
 use Prim.Native.Nat.{ℕ, ◌-◌}
-use native.Mathlib.Omega.{arith}
-use Rattle.bicycle_common.proofs.Filled.{Filled, filled_none, filled_more, filled_each}
+use Rattle.bicycle_common.proofs.Filled.{Filled}
 use Rattle.measurement.specs.Matrices.{of_rows, mul}
 use Rattle.measurement.proofs.product_row.Given as goal
 

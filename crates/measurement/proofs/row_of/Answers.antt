@@ -1,10 +1,7 @@
 -- `measurement::row_of` meets its contract: the loop copies six bytes. Assumes nothing.
-use borrow.Author.Rules.{rules}
-use mathlib.Core.Path.{◌≡◌, refl}
-use Prim.Native.Nat.{ℕ, ◌-◌}
+use mathlib.Core.Path.{refl}
 use native.Mathlib.Omega.{arith}
-use Rattle.bicycle_common.proofs.Filled.{Filled, filled_none, filled_more, filled_each}
-use Rattle.measurement.specs.Matrices.{of_bytes}
+use Rattle.bicycle_common.proofs.Filled.{filled_none, filled_more, filled_each}
 use Rattle.measurement.proofs.row_of.Goals as goal
 
 pub loop-k-init : goal.loop-k-init

@@ -1,9 +1,7 @@
 -- `measurement::row_of` meets its contract: the loop copies six bytes. Assumes nothing.
-use borrow.Author.Rules.{rules}
-use mathlib.Core.Path.{◌≡◌, refl}
+use mathlib.Core.Path.{◌≡◌}
 use Prim.Native.Nat.{ℕ, ◌-◌}
-use native.Mathlib.Omega.{arith}
-use Rattle.bicycle_common.proofs.Filled.{Filled, filled_none, filled_more, filled_each}
+use Rattle.bicycle_common.proofs.Filled.{Filled}
 use Rattle.measurement.specs.Matrices.{of_bytes}
 use Rattle.measurement.proofs.row_of.Given as goal
 

@@ -1,5 +1,4 @@
 -- `measurement::z_of` meets its contract: a yes or no as a number is its flag. Assumes nothing.
-use borrow.Author.Rules.{rules}
 use mathlib.Core.Path.{◌∙◌}
 use Rattle.measurement.proofs.Matrices.{byte_flag}
 use Rattle.measurement.proofs.z_of.Goals as goal

@@ -1,8 +1,7 @@
 -- `moves::gather_unchecked` meets its contract: each rotation is stored behind those that move p, and counts where the two anticommute; what is
 -- told of the later ones stands behind what is stored. Assumes nothing.
-use borrow.Author.Rules.{rules}
 use mathlib.Core.Path.{◌≡◌, subst, ◌∙◌}
-use Prim.Native.Nat.{ℕ, ◌+◌, ◌*◌, ◌/◌, ◌%◌, ◌^◌, ◌≤◌, ◌<◌, ◌-◌}
+use Prim.Native.Nat.{ℕ, ◌%◌, ◌<◌}
 use native.Mathlib.Omega.{arith}
 use lib.Seq.{get_or-set_other}
 use Rattle.pauli_string.specs.Strings.{qubits, clashes}

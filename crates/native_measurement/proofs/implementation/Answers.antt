@@ -1,5 +1,4 @@
 -- `native_measurement::implementation` meets its contract: the number is a native's or not, as `from_number` answers. Assumes nothing.
-use borrow.Author.Rules.{rules}
 use mathlib.Core.Path.{sym, ◌∙◌}
 use Rattle.native_measurement.proofs.Natives.{no_implementation, implementation_of}
 use Rattle.native_measurement.proofs.implementation.Goals as goal

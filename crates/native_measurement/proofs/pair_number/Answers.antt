@@ -1,6 +1,5 @@
 -- `native_measurement::pair_number` meets its contract: both places are below 4; at (I,I) the subtraction stops at 0, as in the definition.
 -- Assumes nothing.
-use borrow.Author.Rules.{rules}
 use mathlib.Core.Path.{ap, ◌∙◌}
 use Rattle.bicycle_common.specs.Letters.{rank}
 use native.Mathlib.Omega.{arith}

@@ -1,5 +1,4 @@
 -- `native_measurement::rank` meets its contract: the arms are the four letters. Assumes nothing.
-use borrow.Author.Rules.{rules}
 use mathlib.Core.Path.{sym, ap}
 use Rattle.bicycle_common.specs.Letters.{rank}
 use Rattle.native_measurement.proofs.rank.Goals as goal

@@ -1,13 +1,10 @@
 -- `natives::alone` meets its contract: the walk passes every greater native of the bucket, so it meets an equal string if there is one; it
 -- ends because a chain ascends. Assumes nothing.
-use borrow.Author.Rules.{rules}
-use mathlib.Core.Path.{◌≡◌, refl, sym, ◌∙◌}
-use Prim.Native.Nat.{◌-◌, ◌<◌, ◌≤◌}
+use mathlib.Core.Path.{refl, sym, ◌∙◌}
 use native.Mathlib.Omega.{arith}
 use Rattle.natives.specs.Arrays.{at}
-use Rattle.natives.specs.Chains.{bucket}
 use Rattle.natives.proofs.Kept.{not_kept}
-use Rattle.natives.proofs.Chains.{Clear, clear_start, clear_more, clear_kept}
+use Rattle.natives.proofs.Chains.{clear_start, clear_more, clear_kept}
 use Rattle.natives.proofs.alone.Goals as goal
 
 pub loop-m-init : goal.loop-m-init

@@ -1,14 +1,10 @@
 -- `natives::block` meets its contract: the loop writes one string a turn, and leaves those before the block. Assumes nothing.
-use borrow.Author.Rules.{rules}
-use mathlib.Core.Path.{◌≡◌, refl, sym, ap, ◌∙◌}
+use mathlib.Core.Path.{◌≡◌}
 use Prim.Native.Nat.{ℕ, ◌+◌, ◌-◌, ◌*◌, ◌<◌, ◌≤◌}
-use native.Mathlib.Omega.{arith}
 use lib.Bits.{bit_and}
-use lib.ListN.{length, length-set}
-use lib.Seq.{get_or-set_other}
+use lib.ListN.{length}
 use Rattle.natives.specs.Arrays.{at}
 use Rattle.natives.specs.Cells.{mask}
-use Rattle.natives.proofs.Cells.{stored_from}
 use Rattle.natives.proofs.block.Given as goal
 
 abbrev pub invariant-loop-k : goal.invariant-loop-k

@@ -1,9 +1,6 @@
 -- `natives::blocks` meets its contract: the loop writes the fifteen strings of one automorphism a turn. Assumes nothing.
-use borrow.Author.Rules.{rules}
 use Prim.Native.Nat.{◌-◌, ◌≤◌}
-use native.Mathlib.Omega.{arith}
 use Rattle.natives.specs.Cells.{shown, Upto}
-use Rattle.natives.proofs.Cells.{block_more, block_shown}
 use Rattle.natives.proofs.blocks.Given as goal
 
 abbrev pub invariant-loop-a : goal.invariant-loop-a

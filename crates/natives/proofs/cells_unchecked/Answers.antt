@@ -1,6 +1,5 @@
 -- `natives::cells_unchecked` meets its contract: the cells of the two grids are the first rows and the first columns, so the strings that
 -- they show are the natives'. Assumes nothing.
-use borrow.Author.Rules.{rules}
 use mathlib.Core.Path.{◌∙◌}
 use Rattle.measurement.specs.Matrices.{of_bytes}
 use Rattle.measurement.proofs.Strings.{bytes_good}

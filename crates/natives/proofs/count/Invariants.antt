@@ -1,15 +1,9 @@
 -- `natives::count` meets its contract: the loop adds 1 for each cell that shows v. Assumes nothing.
-use borrow.Author.Rules.{rules}
-use mathlib.Core.Path.{◌≡◌, sym, ap, ap₂, ◌∙◌}
-use Prim.Native.Nat.{ℕ, ◌+◌, ◌-◌, ◌≤◌}
-use native.Mathlib.Omega.{arith}
-use lib.Dec.{eqb}
-use lib.Bits.{bit_and}
-use Rattle.bicycle_common.proofs.Letters.{flag_le}
+use mathlib.Core.Path.{◌≡◌}
+use Prim.Native.Nat.{◌-◌, ◌≤◌}
 use Rattle.natives.specs.Arrays.{at}
 use Rattle.natives.specs.Chains.{occurrences}
 use Rattle.natives.specs.Cells.{masked}
-use Rattle.natives.proofs.Chains.{occurrences_none, occurrences_more, occurrences_le}
 use Rattle.natives.proofs.count.Given as goal
 
 abbrev pub invariant-loop-a : goal.invariant-loop-a

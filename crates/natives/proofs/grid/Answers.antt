@@ -1,5 +1,4 @@
 -- `natives::grid` meets its contract: each row of the grid is a run from one head, and the heads are a run from 1. Assumes nothing.
-use borrow.Author.Rules.{rules}
 use mathlib.Core.Path.{ap, ◌∙◌}
 use Prim.Native.Nat.{ℕ}
 use Rattle.natives.specs.Arrays.{at}

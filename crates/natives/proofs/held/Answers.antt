@@ -1,10 +1,7 @@
 -- `natives::held` meets its contract: the loop copies the bytes. Assumes nothing.
-use borrow.Author.Rules.{rules}
-use mathlib.Core.Path.{◌≡◌, refl}
-use Prim.Native.Nat.{ℕ, ◌-◌}
+use mathlib.Core.Path.{refl}
 use native.Mathlib.Omega.{arith}
-use lib.ListN.{get_or}
-use Rattle.bicycle_common.proofs.Filled.{Filled, filled_none, filled_more, filled_list}
+use Rattle.bicycle_common.proofs.Filled.{filled_none, filled_more, filled_list}
 use Rattle.natives.proofs.held.Goals as goal
 
 pub loop-q-init : goal.loop-q-init

@@ -1,10 +1,8 @@
 -- `natives::held` meets its contract: the loop copies the bytes. Assumes nothing.
-use borrow.Author.Rules.{rules}
-use mathlib.Core.Path.{◌≡◌, refl}
+use mathlib.Core.Path.{◌≡◌}
 use Prim.Native.Nat.{ℕ, ◌-◌}
-use native.Mathlib.Omega.{arith}
 use lib.ListN.{get_or}
-use Rattle.bicycle_common.proofs.Filled.{Filled, filled_none, filled_more, filled_list}
+use Rattle.bicycle_common.proofs.Filled.{Filled}
 use Rattle.natives.proofs.held.Given as goal
 
 abbrev pub invariant-loop-q : goal.invariant-loop-q

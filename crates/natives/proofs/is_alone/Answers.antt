@@ -1,5 +1,4 @@
 -- `natives::is_alone` meets its contract: a count of 1 says so. Assumes nothing.
-use borrow.Author.Rules.{rules}
 use mathlib.Core.Path.{sym, ◌∙◌}
 use native.Mathlib.Omega.{arith}
 use borrow.Author.Tests.{eqb-true}

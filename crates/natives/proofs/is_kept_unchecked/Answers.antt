@@ -1,6 +1,5 @@
 -- `natives::is_kept_unchecked` meets its contract: a native that is alone is kept where no column and no row is 0; for any other all strings
 -- behind it are looked at. Assumes nothing.
-use borrow.Author.Rules.{rules}
 use mathlib.Core.Path.{sym, subst}
 use native.Mathlib.Omega.{arith}
 use Prim.Native.Nat.{ℕ, ◌/◌}

@@ -1,11 +1,7 @@
 -- `natives::is_last` meets its contract: the loop passes every greater native. Assumes nothing.
-use borrow.Author.Rules.{rules}
-use mathlib.Core.Path.{◌≡◌, sym, ◌∙◌}
+use mathlib.Core.Path.{◌≡◌}
 use Prim.Native.Nat.{ℕ, ◌-◌, ◌<◌, ◌≤◌}
-use native.Mathlib.Omega.{arith}
-use borrow.Author.Count.{below_more}
 use Rattle.natives.specs.Cells.{shown}
-use Rattle.natives.proofs.Kept.{not_kept, kept_complete}
 use Rattle.natives.proofs.is_last.Given as goal
 
 abbrev pub invariant-loop-m : goal.invariant-loop-m

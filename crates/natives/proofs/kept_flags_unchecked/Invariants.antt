@@ -1,16 +1,12 @@
 -- `natives::kept_flags_unchecked` meets its contract: from the greatest native down, each finds the chain of its bucket, and then becomes the
 -- chain's head. Assumes nothing.
-use borrow.Author.Rules.{rules}
-use mathlib.Core.Path.{◌≡◌, refl, subst}
-use mathlib.Core.Bool.{Bool, false}
-use Prim.Native.Nat.{ℕ, ◌+◌, ◌-◌, ◌<◌, ◌≤◌}
-use native.Mathlib.Omega.{arith}
-use lib.ListN.{length, length-set, get_or}
-use Rattle.bicycle_common.proofs.Ranges.{listed_all}
+use mathlib.Core.Path.{◌≡◌}
+use mathlib.Core.Bool.{false}
+use Prim.Native.Nat.{ℕ, ◌<◌, ◌≤◌}
+use lib.ListN.{length, get_or}
 use Rattle.natives.specs.Kept.{kept}
 use Rattle.natives.specs.Arrays.{at}
-use Rattle.natives.specs.Chains.{bucket, Next, Linked, Heads}
-use Rattle.natives.proofs.Chains.{stored_down, heads_more, heads_start}
+use Rattle.natives.specs.Chains.{bucket, Linked, Heads}
 use Rattle.natives.proofs.kept_flags_unchecked.Given as goal
 
 abbrev pub invariant-loop-n : goal.invariant-loop-n

@@ -1,12 +1,9 @@
 -- `natives::kept_number_unchecked` meets its contract: from the top down, the first string that is x is that of the greatest number. Assumes
 -- nothing.
-use borrow.Author.Rules.{rules}
-use mathlib.Core.Path.{◌≡◌, refl, sym, ap, ◌∙◌}
+use mathlib.Core.Path.{◌≡◌}
 use Prim.Native.Nat.{◌≤◌}
-use native.Mathlib.Omega.{arith}
 use Rattle.natives.specs.Kept.{kept_below, kept_for}
 use Rattle.natives.specs.Arrays.{at}
-use Rattle.natives.proofs.Kept.{kept_below_here, kept_below_next, kept_below_none}
 use Rattle.natives.proofs.kept_number_unchecked.Given as goal
 
 abbrev pub invariant-loop-n : goal.invariant-loop-n

@@ -1,5 +1,4 @@
 -- `natives::lacks` meets its contract: it counts the columns that are 0, and the rows. Assumes nothing.
-use borrow.Author.Rules.{rules}
 use mathlib.Core.Path.{sym, ◌∙◌}
 use native.Mathlib.Omega.{arith}
 use Rattle.measurement.specs.Measures.{placed}

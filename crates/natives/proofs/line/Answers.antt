@@ -1,11 +1,10 @@
 -- `natives::line` meets its contract: the loop writes one cell a turn, and leaves those before the block. Assumes nothing.
 use borrow.Author.Rules.{rules}
 use mathlib.Core.Path.{◌≡◌, refl, sym, ◌∙◌}
-use Prim.Native.Nat.{ℕ, ◌+◌, ◌-◌, ◌*◌, ◌%◌, ◌<◌, ◌≤◌}
+use Prim.Native.Nat.{ℕ, ◌+◌, ◌-◌, ◌*◌, ◌%◌}
 use native.Mathlib.Omega.{arith}
-use lib.ListN.{length, length-set}
+use lib.ListN.{length-set}
 use lib.Seq.{get_or-set_other}
-use Rattle.natives.specs.Arrays.{at}
 use Rattle.natives.specs.Cells.{grid_cell}
 use Rattle.natives.proofs.Cells.{cell_at, stored_from}
 use Rattle.natives.proofs.line.Goals as goal

@@ -1,13 +1,9 @@
 -- `natives::line` meets its contract: the loop writes one cell a turn, and leaves those before the block. Assumes nothing.
-use borrow.Author.Rules.{rules}
-use mathlib.Core.Path.{◌≡◌, refl, sym, ◌∙◌}
-use Prim.Native.Nat.{ℕ, ◌+◌, ◌-◌, ◌*◌, ◌%◌, ◌<◌, ◌≤◌}
-use native.Mathlib.Omega.{arith}
-use lib.ListN.{length, length-set}
-use lib.Seq.{get_or-set_other}
+use mathlib.Core.Path.{◌≡◌}
+use Prim.Native.Nat.{ℕ, ◌+◌, ◌-◌, ◌*◌, ◌<◌, ◌≤◌}
+use lib.ListN.{length}
 use Rattle.natives.specs.Arrays.{at}
 use Rattle.natives.specs.Cells.{grid_cell}
-use Rattle.natives.proofs.Cells.{cell_at, stored_from}
 use Rattle.natives.proofs.line.Given as goal
 
 abbrev pub invariant-loop-y : goal.invariant-loop-y

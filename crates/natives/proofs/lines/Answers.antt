@@ -1,9 +1,9 @@
 -- `natives::lines` meets its contract: the loop writes the cells of one first component a turn. Assumes nothing.
 use borrow.Author.Rules.{rules}
 use mathlib.Core.Path.{refl}
-use Prim.Native.Nat.{ℕ, ◌+◌, ◌-◌, ◌*◌, ◌≤◌}
+use Prim.Native.Nat.{ℕ, ◌+◌, ◌*◌}
 use native.Mathlib.Omega.{arith}
-use Rattle.natives.specs.Cells.{grid_cell, Upto}
+use Rattle.natives.specs.Cells.{grid_cell}
 use Rattle.natives.proofs.Cells.{block_more}
 use Rattle.natives.proofs.lines.Goals as goal
 

@@ -1,10 +1,6 @@
 -- `natives::lines` meets its contract: the loop writes the cells of one first component a turn. Assumes nothing.
-use borrow.Author.Rules.{rules}
-use mathlib.Core.Path.{refl}
-use Prim.Native.Nat.{ℕ, ◌+◌, ◌-◌, ◌*◌, ◌≤◌}
-use native.Mathlib.Omega.{arith}
+use Prim.Native.Nat.{◌-◌, ◌≤◌}
 use Rattle.natives.specs.Cells.{grid_cell, Upto}
-use Rattle.natives.proofs.Cells.{block_more}
 use Rattle.natives.proofs.lines.Given as goal
 
 abbrev pub invariant-loop-x : goal.invariant-loop-x

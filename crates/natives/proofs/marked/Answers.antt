@@ -1,10 +1,7 @@
 -- `natives::marked` meets its contract: the loop puts the mark on one cell a turn. Assumes nothing.
-use borrow.Author.Rules.{rules}
-use mathlib.Core.Path.{◌≡◌, refl}
-use Prim.Native.Nat.{ℕ, ◌+◌, ◌-◌, ◌*◌}
+use mathlib.Core.Path.{refl}
 use native.Mathlib.Omega.{arith}
-use Rattle.bicycle_common.proofs.Filled.{Filled, filled_none, filled_more, filled_each}
-use Rattle.natives.specs.Arrays.{at}
+use Rattle.bicycle_common.proofs.Filled.{filled_none, filled_more, filled_each}
 use Rattle.natives.proofs.marked.Goals as goal
 
 pub loop-a-init : goal.loop-a-init

@@ -1,5 +1,4 @@
 -- `natives::mask` meets its contract: it is the string of the letters with every digit of both words. Assumes nothing.
-use borrow.Author.Rules.{rules}
 use Rattle.natives.specs.Cells.{mask}
 use Rattle.natives.proofs.mask.Goals as goal
 

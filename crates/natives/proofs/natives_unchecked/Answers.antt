@@ -1,5 +1,4 @@
 -- `natives::natives_unchecked` meets its contract: the parts are what the calls answer, and the flags read the strings alone. Assumes nothing.
-use borrow.Author.Rules.{rules}
 use Rattle.measurement.proofs.Strings.{bytes_good}
 use Rattle.natives.proofs.Kept.{natives_of_law}
 use Rattle.natives.proofs.natives_unchecked.Goals as goal

@@ -1,5 +1,4 @@
 -- `natives::place` meets its contract: the digits of the two letters are those of k + 1 to the base 4. Assumes nothing.
-use borrow.Author.Rules.{rules}
 use mathlib.Core.Path.{◌∙◌}
 use native.Mathlib.Omega.{arith}
 use Rattle.natives.proofs.Grids.{place_digits}

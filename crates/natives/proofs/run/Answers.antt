@@ -1,11 +1,9 @@
 -- `natives::run` meets its contract: each turn takes the last word one step further. Assumes nothing.
-use borrow.Author.Rules.{rules}
-use mathlib.Core.Path.{◌≡◌, refl, ◌∙◌}
-use Prim.Native.Nat.{ℕ, ◌-◌, ◌≤◌}
+use mathlib.Core.Path.{refl, ◌∙◌}
+use Prim.Native.Nat.{◌-◌}
 use native.Mathlib.Omega.{arith}
-use Rattle.bicycle_common.proofs.Filled.{Filled, filled_more, filled_each}
+use Rattle.bicycle_common.proofs.Filled.{filled_more, filled_each}
 use Rattle.natives.specs.Arrays.{at}
-use Rattle.natives.specs.Packed.{walked}
 use Rattle.natives.proofs.Words.{walked_first, walked_lt, walked_next}
 use Rattle.natives.proofs.run.Goals as goal
 

@@ -1,12 +1,8 @@
 -- `natives::run` meets its contract: each turn takes the last word one step further. Assumes nothing.
-use borrow.Author.Rules.{rules}
-use mathlib.Core.Path.{◌≡◌, refl, ◌∙◌}
+use mathlib.Core.Path.{◌≡◌}
 use Prim.Native.Nat.{ℕ, ◌-◌, ◌≤◌}
-use native.Mathlib.Omega.{arith}
-use Rattle.bicycle_common.proofs.Filled.{Filled, filled_more, filled_each}
-use Rattle.natives.specs.Arrays.{at}
+use Rattle.bicycle_common.proofs.Filled.{Filled}
 use Rattle.natives.specs.Packed.{walked}
-use Rattle.natives.proofs.Words.{walked_first, walked_lt, walked_next}
 use Rattle.natives.proofs.run.Given as goal
 
 abbrev pub invariant-loop-i : goal.invariant-loop-i

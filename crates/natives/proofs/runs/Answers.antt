@@ -1,13 +1,8 @@
 -- `natives::runs` meets its contract: each row is a run by the sums of r. Assumes nothing.
-use borrow.Author.Rules.{rules}
-use mathlib.Core.List.{List, []}
-use mathlib.Core.Path.{◌≡◌, refl, ◌∙◌}
-use Prim.Native.Nat.{ℕ, ◌-◌, ◌<◌}
+use mathlib.Core.Path.{refl, ◌∙◌}
 use native.Mathlib.Omega.{arith}
-use lib.ListN.{get_or}
-use Rattle.bicycle_common.proofs.Filled.{Filled, filled_none, filled_more, filled_each}
+use Rattle.bicycle_common.proofs.Filled.{filled_none, filled_more, filled_each}
 use Rattle.natives.specs.Arrays.{at}
-use Rattle.natives.specs.Packed.{walked}
 use Rattle.natives.proofs.Words.{low_small, high_small, through}
 use Rattle.natives.proofs.runs.Goals as goal
 

@@ -1,5 +1,4 @@
 -- `natives::string_unchecked` meets its contract: the code is the definition. Assumes nothing.
-use borrow.Author.Rules.{rules}
 use mathlib.Core.Path.{ap}
 use Prim.Native.Nat.{ℕ, ◌/◌}
 use lib.Bits.{bit_and}

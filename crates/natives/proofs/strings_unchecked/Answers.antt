@@ -1,5 +1,4 @@
 -- `natives::strings_unchecked` meets its contract: the cells show the natives' strings. Assumes nothing.
-use borrow.Author.Rules.{rules}
 use mathlib.Core.Path.{◌∙◌}
 use Rattle.bicycle_common.proofs.Ranges.{listed_all}
 use Rattle.measurement.specs.Measures.{pair_string}

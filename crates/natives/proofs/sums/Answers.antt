@@ -1,5 +1,4 @@
 -- `natives::sums` meets its contract: the eight sums are written out in the order of their numbers. Assumes nothing.
-use borrow.Author.Rules.{rules}
 use mathlib.Core.Path.{◌≡◌, refl, ap}
 use Prim.Native.Nat.{ℕ, ◌+◌}
 use native.Mathlib.Omega.{arith}

@@ -1,10 +1,8 @@
 -- `natives::words_of` meets its contract: the loop reads one word a turn. Assumes nothing.
 use borrow.Author.Rules.{rules}
-use mathlib.Core.Path.{◌≡◌, refl}
-use Prim.Native.Nat.{ℕ, ◌-◌}
+use mathlib.Core.Path.{refl}
 use native.Mathlib.Omega.{arith}
-use Rattle.bicycle_common.proofs.Filled.{Filled, filled_none, filled_more, filled_each}
-use Rattle.natives.specs.Packed.{word_at}
+use Rattle.bicycle_common.proofs.Filled.{filled_none, filled_more, filled_each}
 use Rattle.natives.proofs.words_of.Goals as goal
 
 pub loop-k-init : goal.loop-k-init

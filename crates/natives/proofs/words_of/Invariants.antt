@@ -1,9 +1,7 @@
 -- `natives::words_of` meets its contract: the loop reads one word a turn. Assumes nothing.
-use borrow.Author.Rules.{rules}
-use mathlib.Core.Path.{◌≡◌, refl}
+use mathlib.Core.Path.{◌≡◌}
 use Prim.Native.Nat.{ℕ, ◌-◌}
-use native.Mathlib.Omega.{arith}
-use Rattle.bicycle_common.proofs.Filled.{Filled, filled_none, filled_more, filled_each}
+use Rattle.bicycle_common.proofs.Filled.{Filled}
 use Rattle.natives.specs.Packed.{word_at}
 use Rattle.natives.proofs.words_of.Given as goal
 

@@ -1,5 +1,4 @@
 -- `pauli_string::get_bit` meets its contract: a shift and a mask read one digit. Assumes nothing.
-use borrow.Author.Rules.{rules}
 use Rattle.pauli_string.proofs.Places.{get_one}
 use Rattle.pauli_string.proofs.get_bit.Goals as goal
 

@@ -1,6 +1,5 @@
 -- `pauli_string::on_pivot` meets its contract: each constant is the identity with its letter set on qubit 0. Assumes nothing.
 use mathlib.Core.Path.{sym, ap}
-use borrow.Author.Rules.{rules}
 use Rattle.pauli_string.specs.Strings.{bit, set_bit, set_letter}
 use Rattle.pauli_string.proofs.on_pivot.Goals as goal
 

@@ -2,7 +2,6 @@
 use mathlib.Core.Bool.{Bool}
 use mathlib.Core.Path.{ap, sym, ◌∙◌}
 use native.Mathlib.Omega.{arith}
-use borrow.Author.Rules.{rules}
 use Rattle.pauli_string.specs.Strings.{set_bit}
 use Rattle.bicycle_common.specs.Letters.{flag}
 use Rattle.pauli_string.proofs.Places.{set_one, set_zero}

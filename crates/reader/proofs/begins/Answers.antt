@@ -1,10 +1,7 @@
 -- `reader::begins` meets its contract: the loop compares byte by byte. Assumes nothing.
-use mathlib.Core.Path.{◌≡◌, refl, sym, ◌∙◌}
-use Prim.Native.Nat.{◌≤◌, ◌-◌}
+use mathlib.Core.Path.{refl, sym, ◌∙◌}
 use native.Mathlib.Omega.{arith}
-use lib.ListN.{length, drop}
 use borrow.Author.Rules.{rules}
-use Rattle.reader.specs.Lines.{begins}
 use Rattle.reader.proofs.Lines.{begins_step, begins_differ, begins_short, begins_done}
 use Rattle.reader.proofs.begins.Goals as goal
 

@@ -1,13 +1,9 @@
 -- `reader::digit_numbers` meets its contract: the loop fills the array from the front with the numbers of the digits. Assumes nothing.
-use mathlib.Core.Path.{◌≡◌, refl, sym, ◌∙◌}
-use mathlib.Core.Bool.{true}
+use mathlib.Core.Path.{refl, sym, ◌∙◌}
 use Prim.Native.Nat.{ℕ, ◌-◌}
 use native.Mathlib.Omega.{arith}
-use lib.ListN.{drop, get_or, length-map, get_or-map}
-use borrow.Author.Rules.{rules}
-use Rattle.bicycle_common.specs.Bytes.{digit_numbers}
-use Rattle.bicycle_common.proofs.Filled.{Filled, filled_none, filled_more, filled_list}
-use Rattle.text.specs.Decimals.{all_digits}
+use lib.ListN.{length-map, get_or-map}
+use Rattle.bicycle_common.proofs.Filled.{filled_none, filled_more, filled_list}
 use Rattle.text.proofs.Decimals.{all_next}
 use Rattle.reader.proofs.digit_numbers.Goals as goal
 

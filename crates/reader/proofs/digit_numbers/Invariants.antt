@@ -1,14 +1,11 @@
 -- `reader::digit_numbers` meets its contract: the loop fills the array from the front with the numbers of the digits. Assumes nothing.
-use mathlib.Core.Path.{◌≡◌, refl, sym, ◌∙◌}
+use mathlib.Core.Path.{◌≡◌}
 use mathlib.Core.Bool.{true}
 use Prim.Native.Nat.{ℕ, ◌-◌}
-use native.Mathlib.Omega.{arith}
-use lib.ListN.{drop, get_or, length-map, get_or-map}
-use borrow.Author.Rules.{rules}
+use lib.ListN.{drop, get_or}
 use Rattle.bicycle_common.specs.Bytes.{digit_numbers}
-use Rattle.bicycle_common.proofs.Filled.{Filled, filled_none, filled_more, filled_list}
+use Rattle.bicycle_common.proofs.Filled.{Filled}
 use Rattle.text.specs.Decimals.{all_digits}
-use Rattle.text.proofs.Decimals.{all_next}
 use Rattle.reader.proofs.digit_numbers.Given as goal
 
 abbrev pub invariant-loop-i : goal.invariant-loop-i

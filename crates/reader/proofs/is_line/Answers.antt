@@ -1,6 +1,5 @@
 -- `reader::is_line` meets its contract: the tests are those of the definition, in its order. Assumes nothing.
 use mathlib.Core.Path.{sym, ◌∙◌}
-use borrow.Author.Rules.{rules}
 use borrow.Author.Tests.{not-true, not-false, lt-ltb, le-ltb}
 use Rattle.reader.specs.Lines.{is_line}
 use Rattle.reader.proofs.is_line.Goals as goal

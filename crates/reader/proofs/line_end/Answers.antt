@@ -1,10 +1,7 @@
 -- `reader::line_end` meets its contract: the loop stops behind the first byte 10, or at the end. Assumes nothing.
-use mathlib.Core.Path.{◌≡◌, refl, sym, ◌∙◌}
-use Prim.Native.Nat.{◌≤◌, ◌-◌, ◌+◌}
+use mathlib.Core.Path.{refl, sym, ◌∙◌}
 use native.Mathlib.Omega.{arith}
-use lib.ListN.{length, drop}
 use borrow.Author.Rules.{rules}
-use Rattle.reader.specs.Lines.{line_length}
 use Rattle.reader.proofs.Lines.{line_step, line_stop, line_none}
 use Rattle.reader.proofs.line_end.Goals as goal
 

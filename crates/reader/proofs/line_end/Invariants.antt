@@ -1,11 +1,8 @@
 -- `reader::line_end` meets its contract: the loop stops behind the first byte 10, or at the end. Assumes nothing.
-use mathlib.Core.Path.{◌≡◌, refl, sym, ◌∙◌}
+use mathlib.Core.Path.{◌≡◌}
 use Prim.Native.Nat.{◌≤◌, ◌-◌, ◌+◌}
-use native.Mathlib.Omega.{arith}
 use lib.ListN.{length, drop}
-use borrow.Author.Rules.{rules}
 use Rattle.reader.specs.Lines.{line_length}
-use Rattle.reader.proofs.Lines.{line_step, line_stop, line_none}
 use Rattle.reader.proofs.line_end.Given as goal
 
 abbrev pub invariant-loop-i : goal.invariant-loop-i

@@ -2,7 +2,6 @@
 use mathlib.Core.Path.{sym, ◌∙◌}
 use native.Mathlib.Omega.{arith}
 use borrow.Author.Tests.{not-true, not-false, eq-eqb, ne_eqb}
-use borrow.Author.Rules.{rules}
 use Rattle.reader.specs.Plans.{matrix_line}
 use Rattle.reader.proofs.Lines.{line_longer}
 use Rattle.reader.proofs.matrix_line.Goals as goal

@@ -2,7 +2,6 @@
 use mathlib.Core.Path.{sym, ◌∙◌}
 use native.Mathlib.Omega.{arith}
 use borrow.Author.Tests.{not-true, not-false, lt-ltb, le-ltb}
-use borrow.Author.Rules.{rules}
 use Rattle.reader.specs.Plans.{native_line}
 use Rattle.reader.proofs.Lines.{line_longer}
 use Rattle.reader.proofs.Answers.{number_read, number_none}

@@ -1,15 +1,9 @@
 -- `reader::read_rotations` meets its contract: before each line those before it are read, and the first bad one decides. Assumes nothing.
-use mathlib.Core.Path.{sym, ap, ◌∙◌}
 use Prim.Native.Nat.{◌-◌, ◌≤◌}
-use native.Mathlib.Omega.{arith}
 use lib.ListN.{length, drop}
-use borrow.Author.Rules.{rules}
-use Rattle.natives.proofs.Arrays.{strings_held}
 use Rattle.reader.specs.Lines.{lines}
 use Rattle.reader.specs.Plans.{strings_of}
-use Rattle.reader.specs.Answers.{plan_answer}
-use Rattle.reader.proofs.Lines.{line_more}
-use Rattle.reader.proofs.Rotations.{Reading, plan_zero, plan_good, text_start, text_end, line_full, line_small, line_refused, line_taken}
+use Rattle.reader.proofs.Rotations.{Reading}
 use Rattle.reader.proofs.read_rotations.Given as goal
 
 abbrev pub invariant-loop-at : goal.invariant-loop-at

@@ -1,11 +1,9 @@
 -- `reader::rotation_line` meets its contract: the line is read as a native, and then tested for a letter on the pivot. Assumes nothing.
-use borrow.Author.Rules.{rules}
 use Rattle.bicycle_common.specs.Bytes.{bytes_of}
 use Rattle.reader.specs.Plans.{native_line, rotation_line}
 use Rattle.reader.proofs.Good.{native_small}
 use Rattle.reader.proofs.Answers.{line_good, line_bad}
 use Rattle.reader.proofs.rotation_line.Goals as goal
-
 
 pub supported-requires : goal.supported-requires
 supported-requires c =

@@ -1,6 +1,5 @@
 -- `reader::supported` meets its contract: the string of the native is tested for a letter on the pivot. Assumes nothing.
 use mathlib.Core.Path.{sym, ap, ◌∙◌}
-use borrow.Author.Rules.{rules}
 use Rattle.pauli_string.specs.Strings.{qubits, has_pivot}
 use Rattle.reader.proofs.supported.Goals as goal
 

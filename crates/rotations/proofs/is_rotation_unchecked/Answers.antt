@@ -1,6 +1,5 @@
 -- `rotations::is_rotation_unchecked` meets its contract: both tests, in the definition's order, the first by its flag. Assumes nothing.
 -- the flag of n says whether it is kept
-use borrow.Author.Rules.{rules}
 use mathlib.Core.Path.{◌≡◌, sym, ap, ◌∙◌}
 use mathlib.Core.Bool.{Bool, false, ◌&&◌}
 use mathlib.Core.List.{List}

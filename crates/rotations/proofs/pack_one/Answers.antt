@@ -1,6 +1,5 @@
 -- `rotations::pack_one` meets its contract: a native that is no rotation changes nothing, and another is stored behind the front. Assumes
 -- nothing.
-use borrow.Author.Rules.{rules}
 use mathlib.Core.Path.{sym, subst, ◌∙◌}
 use Prim.Native.Nat.{ℕ, ◌+◌, ◌<◌}
 use native.Mathlib.Omega.{arith}

@@ -1,8 +1,7 @@
 -- `rotations::pack_unchecked` meets its contract: where some natives are left, the rotations among those before them are in front. Assumes
 -- nothing.
-use borrow.Author.Rules.{rules}
 use mathlib.Core.Path.{◌≡◌, subst}
-use Prim.Native.Nat.{◌+◌, ◌≤◌, ◌-◌}
+use Prim.Native.Nat.{◌+◌, ◌-◌}
 use native.Mathlib.Omega.{arith}
 use Rattle.pauli_string.specs.Strings.{qubits}
 use Rattle.natives.specs.Arrays.{at}
@@ -15,7 +14,6 @@ loop-left-init c = (omega arith, c.requires.packed)
 pub pack_one-m-requires : goal.pack_one-m-requires
 pack_one-m-requires c =
     record { n_lt_natives = (omega arith, c.requires.held.0, c.requires.held.1); packed = c.loop-left.invariant.1 }
-
 
 pub loop-left-preserved : goal.loop-left-preserved
 loop-left-preserved c =

@@ -1,9 +1,6 @@
 -- `rotations::pack_unchecked` meets its contract: where some natives are left, the rotations among those before them are in front. Assumes
 -- nothing.
-use borrow.Author.Rules.{rules}
-use mathlib.Core.Path.{◌≡◌, subst}
-use Prim.Native.Nat.{◌+◌, ◌≤◌, ◌-◌}
-use native.Mathlib.Omega.{arith}
+use Prim.Native.Nat.{◌≤◌, ◌-◌}
 use Rattle.pauli_string.specs.Strings.{qubits}
 use Rattle.natives.specs.Arrays.{at}
 use Rattle.rotations.specs.Packed.{Packed}

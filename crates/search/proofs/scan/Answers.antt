@@ -1,9 +1,8 @@
 -- `search::scan` meets its contract: before each place the state is the model's, in range and covered by the filter; the count stays below
 -- the number of strings, so the scan ends. Assumes nothing.
-use borrow.Author.Rules.{rules}
 use mathlib.Core.Path.{◌≡◌, refl, sym, subst, ◌∙◌}
 use mathlib.Core.Bool.{true}
-use Prim.Native.Nat.{◌^◌, ◌<◌, ◌-◌}
+use Prim.Native.Nat.{◌^◌, ◌<◌}
 use native.Mathlib.Omega.{arith}
 use lib.Dec.{T}
 use lib.ListN.{length}
@@ -13,9 +12,9 @@ use Rattle.table.specs.Bytes.{entry}
 use Rattle.discovery.specs.Model.{state}
 use Rattle.discovery.specs.States.{twelve}
 use Rattle.discovery.proofs.States.{count_below, listed_moving}
-use Rattle.discovery.specs.Short.{strung, Notes}
+use Rattle.discovery.specs.Short.{strung}
 use Rattle.discovery.proofs.Short.{length_strung, strung_entry, room_less}
-use Rattle.search.proofs.Scans.{Scanned, scan_starts, scan_next, scan_reaches}
+use Rattle.search.proofs.Scans.{scan_starts, scan_next, scan_reaches}
 use Rattle.search.proofs.scan.Goals as goal
 use Rattle.search.proofs.scan.Goals.{After-entry_unchecked-p, At-loop-i}
 
@@ -54,13 +53,15 @@ read c =
 
 pub visit-c-requires : goal.visit-c-requires
 visit-c-requires c =
-    record { scratch = (
+    record {
+      scratch = (
         c.loop-i.invariant.2.scratch,
         c.requires.scratch.1,
         c.refresh_unchecked-since.ensures.1,
         listed_moving qubits (state c.loop-i.table (strung c.args.short c.loop-i.queue) c.loop-i.c) c.loop-i.i c.entry_unchecked-p.result c.loop-i.invariant.2.good c.loop-i-test.true (read (goal.at.visit-c-requires c).After-entry_unchecked-p),
-      ); notes = (c.loop-i.invariant.3, c.is_full.ensures.0 c.if-is_full.false) }
-
+      );
+      notes = (c.loop-i.invariant.3, c.is_full.ensures.0 c.if-is_full.false);
+    }
 
 pub overflow_add-i : goal.overflow_add-i
 overflow_add-i c =

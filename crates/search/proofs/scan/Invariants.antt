@@ -1,21 +1,12 @@
 -- `search::scan` meets its contract: before each place the state is the model's, in range and covered by the filter; the count stays below
 -- the number of strings, so the scan ends. Assumes nothing.
-use borrow.Author.Rules.{rules}
-use mathlib.Core.Path.{◌≡◌, refl, sym, subst, ◌∙◌}
-use mathlib.Core.Bool.{true}
-use Prim.Native.Nat.{◌^◌, ◌<◌, ◌-◌}
-use native.Mathlib.Omega.{arith}
-use lib.Dec.{T}
+use mathlib.Core.Path.{◌≡◌}
+use Prim.Native.Nat.{◌^◌, ◌-◌}
 use lib.ListN.{length}
 use Rattle.pauli_string.specs.Strings.{qubits}
-use Rattle.native_measurement.specs.Natives.{natives}
-use Rattle.table.specs.Bytes.{entry}
 use Rattle.discovery.specs.Model.{state}
-use Rattle.discovery.specs.States.{twelve}
-use Rattle.discovery.proofs.States.{count_below, listed_moving}
 use Rattle.discovery.specs.Short.{strung, Notes}
-use Rattle.discovery.proofs.Short.{length_strung, strung_entry, room_less}
-use Rattle.search.proofs.Scans.{Scanned, scan_starts, scan_next, scan_reaches}
+use Rattle.search.proofs.Scans.{Scanned}
 use Rattle.search.proofs.scan.Given as goal
 
 abbrev pub invariant-loop-i : goal.invariant-loop-i

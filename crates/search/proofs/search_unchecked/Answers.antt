@@ -1,5 +1,4 @@
 -- `search::search_unchecked` meets its contract: the packed rotations are those of the natives. Assumes nothing.
-use borrow.Author.Rules.{rules}
 use mathlib.Core.Path.{refl, sym, ap, subst, ◌∙◌}
 use mathlib.Core.Bool.{true}
 use mathlib.Core.List.{List}
@@ -20,12 +19,10 @@ pub pack_unchecked-m-requires : goal.pack_unchecked-m-requires
 pack_unchecked-m-requires c =
     record { held = c.requires.held; packed = packed_fresh qubits (at c.args.strings.now) }
 
-
 pub scan-first-requires : goal.scan-first-requires
 scan-first-requires c =
     let rs = c.pack_unchecked-m.new.rs in
     record { scratch = (record { long_x = refl; long_g = refl }, c.pack_unchecked-m.ensures.rotations, covers_fresh qubits rs c.pack_unchecked-m.result c.args.table.now, c.requires.good.0); notes = (c.requires.good.1, omega arith) }
-
 
 pub clear_from-requires : goal.clear_from-requires
 clear_from-requires c =
@@ -33,13 +30,15 @@ clear_from-requires c =
 
 pub scan-last-requires : goal.scan-last-requires
 scan-last-requires c =
-    record { scratch = (
+    record {
+      scratch = (
         c.scan-first.ensures.0,
         c.pack_unchecked-m.ensures.rotations,
         c.scan-first.ensures.1,
         subst (λ (l : List _). Good qubits (state c.scan-first.new.table l c.scan-first.result.count)) (sym c.clear_from.ensures) c.scan-first.ensures.2.good,
-      ); notes = (notes_long qubits c.clear_from.new.bytes c.scan-first.new.table, c.scan-first.ensures.2.place) }
-
+      );
+      notes = (notes_long qubits c.clear_from.new.bytes c.scan-first.new.table, c.scan-first.ensures.2.place);
+    }
 
 pub returns : goal.returns
 returns c =

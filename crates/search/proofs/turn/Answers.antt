@@ -1,5 +1,4 @@
 -- `search::turn` meets its contract: what is gathered is tried, and that is what the rotations try. Assumes nothing.
-use borrow.Author.Rules.{rules}
 use mathlib.Core.Path.{◌∙◌}
 use native.Mathlib.Omega.{arith}
 use Rattle.pauli_string.specs.Strings.{qubits}
@@ -17,7 +16,6 @@ visits-requires c =
     let xs = c.gather_unchecked-k.new.xs in
     let gs = c.gather_unchecked-k.new.gs in
     record { k_le_natives = (omega (arith, c.gather_unchecked-k.ensures.front, c.requires.scratch.1.few), c.requires.scratch.2.good, c.requires.notes.0, c.requires.notes.1); by_index = λ j h. moving_asks qubits twelve a.p a.depth (at xs j) (at gs j) (state a.table.now (strung a.short a.queue.now) a.count) (led_beside twelve a.m c.requires.scratch.2.small c.requires.scratch.1 c.gather_unchecked-k.ensures.led j h) c.requires.scratch.2 }
-
 
 pub returns : goal.returns
 returns c =

@@ -1,5 +1,4 @@
 -- `search::visit` meets its contract: a turn is skipped where the filter shows that it is idle. Assumes nothing.
-use borrow.Author.Rules.{rules}
 use mathlib.Core.Path.{sym, ap, subst, ◌∙◌}
 use Prim.Native.Nat.{ℕ, ◌+◌}
 use borrow.Author.Tests.{eqb-true}
@@ -27,7 +26,6 @@ pub turn-requires : goal.turn-requires
 turn-requires c =
     let a = c.args in
     record { scratch = (c.requires.scratch.0, c.requires.scratch.1, subst (λ (v : ℕ). Moving qubits a.p (depth v + 1) (state a.table.now (strung a.short a.queue.now) a.count)) (sym c.entry_unchecked-v.ensures) c.requires.scratch.3); notes = c.requires.notes }
-
 
 pub returns : goal.returns
 returns c =

@@ -1,20 +1,11 @@
 -- `search::visits` meets its contract: after j strings the state is the model's; what each may ask stays. Assumes nothing.
-use borrow.Author.Rules.{rules}
-use mathlib.Core.Path.{◌≡◌, refl, sym, ap, subst, ◌∙◌}
-use Prim.Native.Nat.{ℕ, ◌≤◌, ◌-◌}
-use native.Mathlib.Omega.{arith}
+use mathlib.Core.Path.{◌≡◌}
+use Prim.Native.Nat.{◌≤◌, ◌-◌}
 use lib.ListN.{length}
 use Rattle.bicycle_common.specs.Ranges.{in_turn}
-use Rattle.bicycle_common.proofs.Ranges.{in_turn_none, in_turn_next}
 use Rattle.pauli_string.specs.Strings.{qubits}
-use Rattle.native_measurement.specs.Natives.{natives}
-use Rattle.natives.specs.Arrays.{at}
-use Rattle.table.specs.Entries.{value}
-use Rattle.discovery.specs.Model.{State, state, discover}
-use Rattle.discovery.specs.States.{twelve, Good, Asks}
+use Rattle.discovery.specs.Model.{state}
 use Rattle.discovery.specs.Short.{strung, Notes}
-use Rattle.discovery.proofs.Short.{room_less, tried_count}
-use Rattle.discovery.proofs.States.{tried_asks}
 use Rattle.search.specs.Turns.{listed_tried}
 use Rattle.search.proofs.visits.Given as goal
 

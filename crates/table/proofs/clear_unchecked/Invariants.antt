@@ -1,11 +1,8 @@
 -- `table::clear_unchecked` meets its contract: the front that has been passed is zeros, the rest as it was. Assumes nothing.
-use mathlib.Core.Path.{◌≡◌, refl, ap, ◌∙◌}
-use mathlib.Core.List.{List, ◌++◌}
-use Prim.Native.Nat.{ℕ, ◌≤◌, ◌<◌, ◌-◌}
-use native.Mathlib.Omega.{arith}
-use lib.ListN.{length, replicate, drop, set, length-set}
-use borrow.Author.Fill.{fill_none, fill_more}
-use Rattle.table.proofs.Bytes.{zeros_whole}
+use mathlib.Core.Path.{◌≡◌}
+use mathlib.Core.List.{◌++◌}
+use Prim.Native.Nat.{◌≤◌, ◌-◌}
+use lib.ListN.{length, replicate, drop}
 use Rattle.table.proofs.clear_unchecked.Given as goal
 
 abbrev pub invariant-loop-i : goal.invariant-loop-i

@@ -1,5 +1,4 @@
 -- `table::cost` meets its contract: a value is answered of, a refusal passed on. Assumes nothing.
-use borrow.Author.Rules.{rules}
 use mathlib.Core.Path.{sym, ap, ◌∙◌}
 use Rattle.table.specs.Answers.{of_value, costed}
 use Rattle.table.proofs.cost.Goals as goal

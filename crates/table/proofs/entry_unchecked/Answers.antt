@@ -1,5 +1,4 @@
 -- `table::entry_unchecked` meets its contract: the four bytes are put together as the definition does. Assumes nothing.
-use native.Mathlib.Omega.{arith}
 use Rattle.table.specs.Bytes.{entry}
 use borrow.Author.Rules.{rules}
 use Rattle.table.proofs.entry_unchecked.Goals as goal

@@ -1,5 +1,4 @@
 -- `table::field` meets its contract: a value is answered of, a refusal passed on. Assumes nothing.
-use borrow.Author.Rules.{rules}
 use mathlib.Core.Path.{sym, ap, ◌∙◌}
 use Prim.Native.Nat.{ℕ}
 use Rattle.table.specs.declared.NumberAnswer.TheVariants.{Is}

@@ -1,5 +1,4 @@
 -- `table::given` meets its contract: the tests stand in the definition's order. Assumes nothing.
-use borrow.Author.Rules.{rules}
 use mathlib.Core.Path.{sym, refl, ◌∙◌}
 use borrow.Author.Tests.{eq-eqb, ne_eqb, not-true, not-false}
 use Rattle.table.proofs.given.Goals as goal

@@ -1,5 +1,4 @@
 -- `table::has_entry` meets its contract: a value is compared with 0, a refusal passed on. Assumes nothing.
-use borrow.Author.Rules.{rules}
 use mathlib.Core.Path.{sym, ap, ◌∙◌}
 use Rattle.table.specs.Answers.{is_entry}
 use Rattle.table.proofs.has_entry.Goals as goal

@@ -1,5 +1,4 @@
 -- `table::is_empty` meets its contract: the test of the length stands first, as in the definition. Assumes nothing.
-use borrow.Author.Rules.{rules}
 use mathlib.Core.Path.{refl}
 use borrow.Author.Tests.{eq-eqb, ne_eqb}
 use Rattle.table.proofs.is_empty.Goals as goal

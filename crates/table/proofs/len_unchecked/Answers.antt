@@ -1,10 +1,9 @@
 -- `table::len_unchecked` meets its contract: the count so far is that of the values passed. Assumes nothing.
 -- what is added is 1 for a value that is not 0
-use borrow.Author.Rules.{rules}
 use mathlib.Core.Path.{◌≡◌, sym, ap, ◌∙◌}
 use mathlib.Core.Bool.{not}
 use lib.Dec.{eqb}
-use Prim.Native.Nat.{ℕ, ◌^◌, ◌-◌, ◌≤◌}
+use Prim.Native.Nat.{ℕ, ◌^◌}
 use native.Mathlib.Omega.{arith}
 use Rattle.bicycle_common.specs.Letters.{flag}
 use Rattle.shortest.specs.Counts.{labelled, entries_in}

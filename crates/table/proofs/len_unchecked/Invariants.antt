@@ -1,14 +1,8 @@
 -- `table::len_unchecked` meets its contract: the count so far is that of the values passed. Assumes nothing.
 -- what is added is 1 for a value that is not 0
-use borrow.Author.Rules.{rules}
-use mathlib.Core.Path.{◌≡◌, sym, ap, ◌∙◌}
-use mathlib.Core.Bool.{not}
-use lib.Dec.{eqb}
-use Prim.Native.Nat.{ℕ, ◌^◌, ◌-◌, ◌≤◌}
-use native.Mathlib.Omega.{arith}
-use Rattle.bicycle_common.specs.Letters.{flag}
-use Rattle.shortest.specs.Counts.{labelled, entries_in}
-use Rattle.shortest.proofs.Counts.{entries_below, entries_none, entries_next, labelled_le}
+use mathlib.Core.Path.{◌≡◌}
+use Prim.Native.Nat.{◌^◌, ◌-◌, ◌≤◌}
+use Rattle.shortest.specs.Counts.{entries_in}
 use Rattle.pauli_string.specs.Strings.{qubits}
 use Rattle.table.specs.Bytes.{entry}
 use Rattle.table.proofs.len_unchecked.Given as goal

@@ -1,5 +1,4 @@
 -- `table::value` meets its contract: the tests stand in the order of the definition. Assumes nothing.
-use borrow.Author.Rules.{rules}
 use mathlib.Core.Path.{refl}
 use borrow.Author.Tests.{eq-eqb, ne_eqb, lt-ltb, le-ltb}
 use Rattle.table.proofs.value.Goals as goal

@@ -1,5 +1,4 @@
 -- `table_check::best_top` is safe and ends: each step goes up, and none above 64. Assumes nothing.
-use borrow.Author.Rules.{rules}
 use Prim.Native.Nat.{◌-◌, ◌≤◌}
 use Rattle.table_check.proofs.best_top.Given as goal
 

@@ -1,6 +1,5 @@
 -- `table_check::calm` meets its contract: the strings that are read are where the rotations lead, and the entries up to the limit are those so
 -- low. Assumes nothing.
-use borrow.Author.Rules.{rules}
 use native.Mathlib.Omega.{arith}
 use Rattle.pauli_string.specs.Strings.{qubits}
 use Rattle.table_check.proofs.Decides.{decides_same}

@@ -1,7 +1,6 @@
 -- `table_check::ceiling` meets its contract: after each native it is the ceiling of those passed. Assumes nothing.
-use borrow.Author.Rules.{rules}
 use mathlib.Core.Path.{◌≡◌, subst}
-use Prim.Native.Nat.{ℕ, ◌≤◌, ◌-◌}
+use Prim.Native.Nat.{ℕ}
 use native.Mathlib.Omega.{arith}
 use Rattle.pauli_string.specs.Strings.{qubits}
 use Rattle.natives.specs.Arrays.{at}
@@ -18,7 +17,6 @@ loop-n-init c =
 pub lower-end-requires : goal.lower-end-requires
 lower-end-requires c =
     record { n_lt_natives = (c.loop-n-test.true, c.requires); ceiling = c.loop-n.invariant.1 }
-
 
 pub loop-n-preserved : goal.loop-n-preserved
 loop-n-preserved c = (omega arith, c.lower-end.ensures)

@@ -1,13 +1,9 @@
 -- `table_check::ceiling` meets its contract: after each native it is the ceiling of those passed. Assumes nothing.
-use borrow.Author.Rules.{rules}
-use mathlib.Core.Path.{◌≡◌, subst}
-use Prim.Native.Nat.{ℕ, ◌≤◌, ◌-◌}
-use native.Mathlib.Omega.{arith}
+use Prim.Native.Nat.{◌≤◌, ◌-◌}
 use Rattle.pauli_string.specs.Strings.{qubits}
 use Rattle.natives.specs.Arrays.{at}
 use Rattle.table.specs.Bytes.{entry}
 use Rattle.table_check.specs.Tests.{Ceiling}
-use Rattle.table_check.proofs.Stops.{ceiling_none}
 use Rattle.table_check.proofs.ceiling.Given as goal
 
 abbrev pub invariant-loop-n : goal.invariant-loop-n

@@ -1,6 +1,5 @@
 -- `table_check::check` meets its contract: a table and a pair are given, and the check stops at the lowest index that breaks its rule, or
 -- behind all. Assumes nothing.
-use borrow.Author.Rules.{rules}
 use mathlib.Core.Path.{◌≡◌, sym, ◌∙◌}
 use native.Mathlib.Omega.{arith}
 use Rattle.bicycle_common.specs.declared.Outcome.TheVariants.{Done}
@@ -21,7 +20,6 @@ check_pair-p-requires c =
     let a = c.args in
     let g = given_done qubits side a.table.now a.mx.now a.my.now (done (goal.at.check_pair-p-requires c).In-Done) in
     record { table_len = g.0; mx_value = (g.1, g.2) }
-
 
 pub returns-then-p-lt-STRINGS : goal.returns-then-p-lt-STRINGS
 returns-then-p-lt-STRINGS c =

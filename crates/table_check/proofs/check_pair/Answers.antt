@@ -1,5 +1,4 @@
 -- `table_check::check_pair` meets its contract: the rule reads the strings of the natives alone, and these are held. Assumes nothing.
-use borrow.Author.Rules.{rules}
 use Rattle.pauli_string.specs.Strings.{qubits}
 use Rattle.measurement.specs.Matrices.{side}
 use Rattle.measurement.specs.Measures.{pair_string}

@@ -1,5 +1,4 @@
 -- `table_check::is_base` meets its contract: the value names a native below 540, whose string is compared. Assumes nothing.
-use borrow.Author.Rules.{rules}
 use Prim.Native.Nat.{◌-◌}
 use native.Mathlib.Omega.{arith}
 use lib.Dec.{eqb}

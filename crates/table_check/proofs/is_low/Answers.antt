@@ -1,5 +1,4 @@
 -- `table_check::is_low` meets its contract: both tests are those of the definition. Assumes nothing.
-use borrow.Author.Rules.{rules}
 use Rattle.table_check.proofs.Decides.{decides_same, decides_le}
 use lib.Dec.{leb}
 use Rattle.table_check.proofs.is_low.Goals as goal

@@ -1,5 +1,4 @@
 -- `table_check::is_rooted` meets its contract: the value read tells which of the two kinds of entry p has, if any. Assumes nothing.
-use borrow.Author.Rules.{rules}
 use mathlib.Core.Path.{sym, subst, ◌∙◌}
 use Prim.Native.Nat.{ℕ}
 use native.Mathlib.Omega.{arith}

@@ -1,6 +1,5 @@
 -- `table_check::leads_down` meets its contract: a rotation by the native's string is where it leads, and the value read there is compared.
 -- Assumes nothing.
-use borrow.Author.Rules.{rules}
 use borrow.Author.Tests.{not-true, not-false}
 use mathlib.Core.Bool.{true≢false}
 use mathlib.Core.Path.{◌≡◌, sym, ap, subst, ◌∙◌}

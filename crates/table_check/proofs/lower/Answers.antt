@@ -1,6 +1,5 @@
 -- `table_check::lower` meets its contract: the tests leave only a kept native whose nonzero string is lower and has a wrong value. Assumes
 -- nothing.
-use borrow.Author.Rules.{rules}
 use borrow.Author.Tests.{not-true, not-false}
 use mathlib.Core.Bool.{Bool, false, true≢false}
 use mathlib.Core.List.{List}

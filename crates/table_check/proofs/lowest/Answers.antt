@@ -1,6 +1,5 @@
 -- `table_check::lowest` meets its contract: index 0 is tested first, and the others by the packed rotations, up to the ceiling and from both
 -- ends. Assumes nothing.
-use borrow.Author.Rules.{rules}
 use mathlib.Core.Path.{sym, ◌∙◌}
 use Rattle.pauli_string.specs.Strings.{qubits}
 use Rattle.natives.specs.Arrays.{at}
@@ -19,7 +18,6 @@ returns-then-entry_unchecked-ne541 c =
 pub pack_unchecked-m-requires : goal.pack_unchecked-m-requires
 pack_unchecked-m-requires c =
     record { held = (c.requires.held, c.requires.flagged); packed = packed_fresh qubits (at c.args.strings.now) }
-
 
 pub returns : goal.returns
 returns c =

@@ -1,5 +1,4 @@
 -- `table_check::meets` meets its contract: the rotations are followed from p where its height is above top. Assumes nothing.
-use borrow.Author.Rules.{rules}
 use borrow.Author.Tests.{not-true, not-false}
 use mathlib.Core.Path.{◌≡◌, ap, subst, ◌∙◌}
 use Prim.Native.Nat.{ℕ, ◌<◌}
@@ -36,7 +35,6 @@ pub calm-requires : goal.calm-requires
 calm-requires c =
     let a = c.args in
     record { xs_len = (c.requires.xs_len.0, c.requires.p_bound, packs qubits (at a.strings.now) a.rs.now a.m c.requires.xs_len.2); table_len = (c.requires.xs_len.1.table_long, c.height-h.ensures.1) }
-
 
 pub returns : goal.returns
 returns c =

@@ -1,7 +1,6 @@
 -- `table_check::neighbours` meets its contract: each store leaves those before it as they are. Assumes nothing.
-use borrow.Author.Rules.{rules}
 use mathlib.Core.Path.{◌≡◌, subst}
-use Prim.Native.Nat.{ℕ, ◌≤◌, ◌-◌}
+use Prim.Native.Nat.{ℕ}
 use native.Mathlib.Omega.{arith}
 use Rattle.pauli_string.specs.Strings.{qubits}
 use Rattle.table_check.specs.Tests.{Neighbours}

@@ -1,11 +1,7 @@
 -- `table_check::neighbours` meets its contract: each store leaves those before it as they are. Assumes nothing.
-use borrow.Author.Rules.{rules}
-use mathlib.Core.Path.{◌≡◌, subst}
-use Prim.Native.Nat.{ℕ, ◌≤◌, ◌-◌}
-use native.Mathlib.Omega.{arith}
+use Prim.Native.Nat.{◌≤◌, ◌-◌}
 use Rattle.pauli_string.specs.Strings.{qubits}
 use Rattle.table_check.specs.Tests.{Neighbours}
-use Rattle.table_check.proofs.Index.{neighbours_more}
 use Rattle.table_check.proofs.neighbours.Given as goal
 
 abbrev pub invariant-loop-i : goal.invariant-loop-i

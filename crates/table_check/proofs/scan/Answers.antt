@@ -1,12 +1,11 @@
 -- `table_check::scan` meets its contract: every nonzero index passed meets its tests; the first that does not is answered, or else the ceiling.
 -- Assumes nothing.
-use borrow.Author.Rules.{rules}
 use borrow.Author.Count.{below_more}
 use borrow.Author.Tests.{not-true, not-false}
 use mathlib.Core.Path.{◌≡◌}
-use Prim.Native.Nat.{ℕ, ◌≤◌, ◌<◌, ◌-◌}
+use Prim.Native.Nat.{ℕ}
 use native.Mathlib.Omega.{arith}
-use lib.ListN.{length, length-replicate}
+use lib.ListN.{length-replicate}
 use Rattle.pauli_string.specs.Strings.{qubits}
 use Rattle.native_measurement.specs.Natives.{natives}
 use Rattle.natives.specs.Arrays.{at}
@@ -25,7 +24,6 @@ loop-p-init c =
 pub meets-requires : goal.meets-requires
 meets-requires c =
     record { xs_len = (c.loop-p.invariant.2, c.requires.readable.0, c.requires.readable.1); p_bound = omega (arith, c.loop-p-test.true, c.requires.ceiling.within) }
-
 
 pub returns-then-not-meets : goal.returns-then-not-meets
 returns-then-not-meets c =

@@ -1,20 +1,13 @@
 -- `table_check::scan` meets its contract: every nonzero index passed meets its tests; the first that does not is answered, or else the ceiling.
 -- Assumes nothing.
-use borrow.Author.Rules.{rules}
-use borrow.Author.Count.{below_more}
-use borrow.Author.Tests.{not-true, not-false}
 use mathlib.Core.Path.{◌≡◌}
 use Prim.Native.Nat.{ℕ, ◌≤◌, ◌<◌, ◌-◌}
-use native.Mathlib.Omega.{arith}
-use lib.ListN.{length, length-replicate}
+use lib.ListN.{length}
 use Rattle.pauli_string.specs.Strings.{qubits}
 use Rattle.native_measurement.specs.Natives.{natives}
 use Rattle.natives.specs.Arrays.{at}
 use Rattle.table.specs.Bytes.{entry}
-use Rattle.table.proofs.Bytes.{entry_lt}
 use Rattle.table_check.specs.Tests.{Tested}
-use Rattle.table_check.proofs.Decides.{decides_yes, decides_no}
-use Rattle.table_check.proofs.Stops.{ceiling_positive, ceiling_scanned, fails_scanned}
 use Rattle.table_check.proofs.scan.Given as goal
 
 abbrev pub invariant-loop-p : goal.invariant-loop-p

@@ -1,14 +1,11 @@
 -- `table_check::sink` meets its contract: the end sinks from one nonzero string after another. Assumes nothing.
-use borrow.Author.Rules.{rules}
-use mathlib.Core.List.{List}
 use mathlib.Core.Path.{◌≡◌, subst}
-use Prim.Native.Nat.{ℕ, ◌^◌, ◌≤◌, ◌-◌}
+use Prim.Native.Nat.{ℕ, ◌^◌}
 use native.Mathlib.Omega.{arith}
-use lib.ListN.{length, length-replicate}
+use lib.ListN.{length-replicate}
 use Rattle.pauli_string.specs.Strings.{qubits}
 use Rattle.native_measurement.specs.Natives.{natives}
 use Rattle.table.specs.Bytes.{entry}
-use Rattle.table_check.specs.Tests.{PackedIn, Least, Blamed}
 use Rattle.table_check.proofs.Least.{blamed_none, blamed_more}
 use Rattle.table_check.proofs.sink.Goals as goal
 use Rattle.table_check.proofs.sink.Invariants.{Sunk}
@@ -21,7 +18,6 @@ loop-x-init c =
 pub sink_from-r-requires : goal.sink_from-r-requires
 sink_from-r-requires c =
     record { xs_len = (c.loop-x.invariant.2, c.loop-x-test.true, c.requires.1); table_len = c.requires.0 }
-
 
 pub loop-x-preserved : goal.loop-x-preserved
 loop-x-preserved c =

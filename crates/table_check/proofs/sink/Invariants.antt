@@ -1,15 +1,12 @@
 -- `table_check::sink` meets its contract: the end sinks from one nonzero string after another. Assumes nothing.
-use borrow.Author.Rules.{rules}
 use mathlib.Core.List.{List}
-use mathlib.Core.Path.{◌≡◌, subst}
+use mathlib.Core.Path.{◌≡◌}
 use Prim.Native.Nat.{ℕ, ◌^◌, ◌≤◌, ◌-◌}
-use native.Mathlib.Omega.{arith}
-use lib.ListN.{length, length-replicate}
+use lib.ListN.{length}
 use Rattle.pauli_string.specs.Strings.{qubits}
 use Rattle.native_measurement.specs.Natives.{natives}
 use Rattle.table.specs.Bytes.{entry}
 use Rattle.table_check.specs.Tests.{PackedIn, Least, Blamed}
-use Rattle.table_check.proofs.Least.{blamed_none, blamed_more}
 use Rattle.table_check.proofs.sink.Given as goal
 
 -- r is the lowest string blamed from below k, whatever the natives whose rotations are packed

@@ -1,5 +1,4 @@
 -- `table_check::sink_at` meets its contract: both tests are those of the definition. Assumes nothing.
-use borrow.Author.Rules.{rules}
 use mathlib.Core.Path.{◌≡◌, refl, ap, ◌∙◌}
 use native.Mathlib.Omega.{arith}
 use Rattle.table.specs.Bytes.{entry}

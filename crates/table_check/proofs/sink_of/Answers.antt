@@ -1,7 +1,6 @@
 -- `table_check::sink_of` meets its contract: the end sinks string by string. Assumes nothing.
-use borrow.Author.Rules.{rules}
 use mathlib.Core.Path.{◌≡◌, subst}
-use Prim.Native.Nat.{ℕ, ◌≤◌, ◌-◌}
+use Prim.Native.Nat.{ℕ}
 use native.Mathlib.Omega.{arith}
 use Rattle.table.specs.Bytes.{entry}
 use Rattle.table_check.specs.Tests.{Least, High}

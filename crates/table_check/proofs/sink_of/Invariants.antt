@@ -1,11 +1,7 @@
 -- `table_check::sink_of` meets its contract: the end sinks string by string. Assumes nothing.
-use borrow.Author.Rules.{rules}
-use mathlib.Core.Path.{◌≡◌, subst}
-use Prim.Native.Nat.{ℕ, ◌≤◌, ◌-◌}
-use native.Mathlib.Omega.{arith}
+use Prim.Native.Nat.{◌≤◌, ◌-◌}
 use Rattle.table.specs.Bytes.{entry}
 use Rattle.table_check.specs.Tests.{Least, High}
-use Rattle.table_check.proofs.Least.{high_none, high_more}
 use Rattle.table_check.proofs.sink_of.Given as goal
 
 abbrev pub invariant-loop-i : goal.invariant-loop-i

@@ -1,12 +1,11 @@
 -- `table_check::still` meets its contract: of the strings passed so far none has such an entry. Assumes nothing.
-use borrow.Author.Rules.{rules}
 use borrow.Author.Count.{below_more}
 use mathlib.Core.Path.{subst}
-use Prim.Native.Nat.{ℕ, ◌≤◌, ◌-◌}
+use Prim.Native.Nat.{ℕ}
 use native.Mathlib.Omega.{arith}
 use Rattle.natives.specs.Arrays.{at}
 use Rattle.table.specs.Bytes.{entry}
-use Rattle.table_check.specs.Tests.{Low, Still}
+use Rattle.table_check.specs.Tests.{Low}
 use Rattle.table_check.proofs.Decides.{decides_yes, decides_no}
 use Rattle.table_check.proofs.still.Goals as goal
 

@@ -1,5 +1,4 @@
 -- `table_check::work` is safe and ends: it counts at most one for each string. Assumes nothing.
-use borrow.Author.Rules.{rules}
 use Prim.Native.Nat.{◌^◌, ◌-◌, ◌≤◌}
 use Rattle.pauli_string.specs.Strings.{qubits}
 use Rattle.table_check.proofs.work.Given as goal

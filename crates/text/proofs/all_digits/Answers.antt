@@ -1,10 +1,7 @@
 -- `text::all_digits` meets its contract: all are digits exactly when those from place i on are, until one is none. Assumes nothing.
-use mathlib.Core.Path.{◌≡◌, refl, sym, ◌∙◌}
-use Prim.Native.Nat.{◌-◌, ◌≤◌}
-use lib.ListN.{length, drop}
+use mathlib.Core.Path.{refl, sym, ◌∙◌}
 use borrow.Author.Rules.{rules}
 use borrow.Author.Tests.{not-true, not-false}
-use Rattle.text.specs.Decimals.{all_digits}
 use Rattle.text.proofs.Decimals.{all_none, all_step, all_stop}
 use Rattle.text.proofs.all_digits.Goals as goal
 

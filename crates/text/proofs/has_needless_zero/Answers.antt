@@ -1,6 +1,5 @@
 -- `text::has_needless_zero` meets its contract: one byte is no needless zero, and where there are more the first decides. Assumes nothing.
 use borrow.Author.Tests.{lt-ltb, le-ltb}
-use borrow.Author.Rules.{rules}
 use Rattle.text.proofs.has_needless_zero.Goals as goal
 
 pub returns-then-s-gt1 : goal.returns-then-s-gt1

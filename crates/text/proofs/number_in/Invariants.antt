@@ -1,10 +1,7 @@
 -- `text::number_in` meets its contract: v is what the digits before place i stand for, and three of them are below 1,000. Assumes nothing.
-use mathlib.Core.Path.{refl, sym, ◌∙◌}
-use Prim.Native.Nat.{◌-◌, ◌<◌}
-use native.Mathlib.Omega.{arith}
+use Prim.Native.Nat.{◌-◌}
 use lib.ListN.{length}
-use borrow.Author.Rules.{rules}
-use Rattle.text.proofs.Decimals.{SoFar, all_next, so_far_next, number_none, small_before}
+use Rattle.text.proofs.Decimals.{SoFar}
 use Rattle.text.proofs.number_in.Given as goal
 
 abbrev pub invariant-loop-i : goal.invariant-loop-i

@@ -2,7 +2,6 @@
 use Prim.Native.Nat.{◌/◌, ◌<◌}
 use native.Mathlib.Omega.{arith}
 use Rattle.text.proofs.Decimals.{decimal_one, put_more}
-use borrow.Author.Rules.{rules}
 use Rattle.text.proofs.put_below_100.Goals as goal
 
 pub returns-then-n-lt10 : goal.returns-then-n-lt10

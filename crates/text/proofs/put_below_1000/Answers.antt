@@ -2,7 +2,6 @@
 use Prim.Native.Nat.{◌≤◌}
 use native.Mathlib.Omega.{arith}
 use Rattle.text.proofs.Decimals.{put_more}
-use borrow.Author.Rules.{rules}
 use Rattle.text.proofs.put_below_1000.Goals as goal
 
 pub returns : goal.returns

@@ -1,6 +1,5 @@
 -- `text::put_byte_unchecked` meets its contract: past the end nothing is stored. Assumes nothing.
 use Rattle.text.proofs.Puts.{put_out}
-use borrow.Author.Rules.{rules}
 use Rattle.text.proofs.put_byte_unchecked.Goals as goal
 
 pub returns : goal.returns

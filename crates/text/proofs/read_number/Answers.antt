@@ -3,7 +3,6 @@ use mathlib.Core.Path.{sym, ◌∙◌, ap}
 use borrow.Author.Tests.{not-true, not-false}
 use Rattle.text.proofs.Decimals.{none_short, none_long, none_zero, none_other, is_number_law}
 use Rattle.text.specs.declared.NumberAnswer.TheVariants.{Is}
-use borrow.Author.Rules.{rules}
 use Rattle.text.proofs.read_number.Goals as goal
 
 pub returns-then-s-lt1 : goal.returns-then-s-lt1

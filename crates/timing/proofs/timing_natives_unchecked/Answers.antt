@@ -2,7 +2,6 @@
 use mathlib.Core.Bool.{false}
 use mathlib.Core.Path.{ap, ◌∙◌}
 use lib.ListN.{get_or}
-use borrow.Author.Rules.{rules}
 use Rattle.bicycle_common.proofs.Ranges.{listed_at}
 use Rattle.native_measurement.specs.Natives.{natives}
 use Rattle.measurement.specs.Matrices.{side}

@@ -4,7 +4,6 @@ use mathlib.Core.List.{◌∷◌, ◌++◌}
 use Prim.Native.Nat.{ℕ}
 use Rattle.bicycle_common.specs.Bytes.{bytes_of}
 use Rattle.bicycle_common.specs.Letters.{capital}
-use borrow.Author.Rules.{rules}
 use Rattle.bicycle_common.specs.Instructions.{aut_text, shown, instruction_shown}
 use Rattle.bicycle_common.proofs.BicycleISA.display.Goals as goal
 

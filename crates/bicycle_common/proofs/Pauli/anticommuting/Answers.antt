@@ -1,6 +1,5 @@
 -- `bicycle_common::Pauli::anticommuting` meets its contract: each arm is a row of the definition. Assumes nothing.
 use mathlib.Core.Path.{sym, ap}
-use borrow.Author.Rules.{rules}
 use Rattle.bicycle_common.specs.Letters.{anticommuting_letters}
 use Rattle.bicycle_common.proofs.Pauli.anticommuting.Goals as goal
 

@@ -1,6 +1,5 @@
 -- `bicycle_common::TwoBases::new` meets its contract: the two tests decide which case of `basesOf` holds. Assumes nothing.
 use mathlib.Core.Path.{sym, ◌∙◌}
-use borrow.Author.Rules.{rules}
 use Rattle.bicycle_common.proofs.TwoBases.new.Goals as goal
 
 pub returns-else-is_identity-2 : goal.returns-else-is_identity-2

@@ -1,5 +1,4 @@
 -- `measurement::CodeMeasurement::new` meets its contract: both matrices are laid out by `flat`. Assumes nothing.
-use borrow.Author.Rules.{rules}
 use Rattle.measurement.proofs.CodeMeasurement.new.Goals as goal
 
 pub returns : goal.returns

@@ -1,6 +1,5 @@
 -- `measurement::MeasurementChoices::measurement` meets its contract: the constants of each code, laid out by rows, compute to the digits of
 -- the definition. Assumes nothing.
-use borrow.Author.Rules.{rules}
 use mathlib.Core.List.{flat_map}
 use mathlib.Core.Path.{sym, ap, ◌∙◌}
 use Rattle.bicycle_common.specs.Ranges.{list_from}

@@ -1,6 +1,5 @@
 -- `native_measurement::NativeMeasurement::from_number` meets its contract: the two letters are never both the identity, so the case without
 -- bases cannot be. Assumes nothing.
-use borrow.Author.Rules.{rules}
 use mathlib.Core.Path.{sym, ap, ◌∙◌}
 use native.Mathlib.Omega.{arith}
 use borrow.Author.Tests.{lt-ltb, le-ltb}

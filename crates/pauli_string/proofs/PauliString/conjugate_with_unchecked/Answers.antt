@@ -1,6 +1,5 @@
 -- `pauli_string::PauliString::conjugate_with_unchecked` meets its contract: the test decides which case of `conj` holds. Assumes nothing.
 use mathlib.Core.Path.{◌∙◌, sym}
-use borrow.Author.Rules.{rules}
 use Rattle.pauli_string.proofs.Commutation.{conj_commuting, conj_anti}
 use Rattle.pauli_string.proofs.PauliString.conjugate_with_unchecked.Goals as goal
 

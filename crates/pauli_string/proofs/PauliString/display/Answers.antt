@@ -1,6 +1,5 @@
 -- `pauli_string::PauliString::display` meets its contract: the test decides which case of the answer holds. Assumes nothing.
 use mathlib.Core.Path.{ap}
-use borrow.Author.Rules.{rules}
 use Rattle.bicycle_common.specs.declared.Outcome.TheVariants.{Done}
 use Rattle.pauli_string.specs.Answers.{text_answer}
 use Rattle.pauli_string.proofs.Range.{is_string_law, no_string}

@@ -1,14 +1,10 @@
 -- `pauli_string::PauliString::display_unchecked` meets its contract: the loop fills the array from the front with the text of the string.
 -- Assumes nothing.
-use mathlib.Core.Path.{◌≡◌, refl, sym, ap, ◌∙◌}
-use Prim.Native.Nat.{ℕ, ◌-◌, ◌<◌}
+use mathlib.Core.Path.{refl, sym, ap, ◌∙◌}
+use Prim.Native.Nat.{◌<◌}
 use native.Mathlib.Omega.{arith}
-use lib.ListN.{get_or}
-use borrow.Author.Rules.{rules}
 use Rattle.bicycle_common.specs.Letters.{capital}
-use Rattle.bicycle_common.specs.declared.Pauli.TheVariants.{I}
-use Rattle.bicycle_common.proofs.Filled.{Filled, filled_none, filled_more, filled_list}
-use Rattle.pauli_string.specs.Text.{text}
+use Rattle.bicycle_common.proofs.Filled.{filled_none, filled_more, filled_list}
 use Rattle.pauli_string.proofs.Text.{length_text, text_at}
 use Rattle.pauli_string.proofs.PauliString.display_unchecked.Goals as goal
 

@@ -1,15 +1,12 @@
 -- `pauli_string::PauliString::display_unchecked` meets its contract: the loop fills the array from the front with the text of the string.
 -- Assumes nothing.
-use mathlib.Core.Path.{◌≡◌, refl, sym, ap, ◌∙◌}
-use Prim.Native.Nat.{ℕ, ◌-◌, ◌<◌}
-use native.Mathlib.Omega.{arith}
+use mathlib.Core.Path.{◌≡◌}
+use Prim.Native.Nat.{ℕ, ◌-◌}
 use lib.ListN.{get_or}
-use borrow.Author.Rules.{rules}
 use Rattle.bicycle_common.specs.Letters.{capital}
 use Rattle.bicycle_common.specs.declared.Pauli.TheVariants.{I}
-use Rattle.bicycle_common.proofs.Filled.{Filled, filled_none, filled_more, filled_list}
+use Rattle.bicycle_common.proofs.Filled.{Filled}
 use Rattle.pauli_string.specs.Text.{text}
-use Rattle.pauli_string.proofs.Text.{length_text, text_at}
 use Rattle.pauli_string.proofs.PauliString.display_unchecked.Given as goal
 
 abbrev pub invariant-loop-i : goal.invariant-loop-i

@@ -2,13 +2,12 @@
 -- that stands for no letter ends it. Assumes nothing.
 use mathlib.Core.List.{List}
 use mathlib.Core.Path.{◌≡◌, refl, sym, ap, ◌∙◌}
-use Prim.Native.Nat.{ℕ, ◌-◌}
+use Prim.Native.Nat.{ℕ}
 use native.Mathlib.Omega.{arith}
 use lib.ListN.{length}
-use borrow.Author.Rules.{rules}
 use Rattle.pauli_string.specs.Answers.{string}
 use Rattle.pauli_string.specs.Text.{good}
-use Rattle.pauli_string.proofs.Text.{Reading, reading_none, reading_more, reading_done, text_short, text_bad}
+use Rattle.pauli_string.proofs.Text.{reading_none, reading_more, reading_done, text_short, text_bad}
 use Rattle.pauli_string.proofs.PauliString.from_text.Goals as goal
 
 pub returns-then-text-ne12 : goal.returns-then-text-ne12

@@ -1,6 +1,5 @@
 -- `pauli_string::PauliString::get_pauli` meets its contract: the tests decide which case of the answer holds. Assumes nothing.
 use mathlib.Core.Path.{ap}
-use borrow.Author.Rules.{rules}
 use borrow.Author.Tests.{lt-ltb, le-ltb}
 use Rattle.bicycle_common.specs.declared.LetterAnswer.TheVariants.{Is}
 use Rattle.pauli_string.proofs.Range.{is_string_law, no_string}

@@ -1,7 +1,6 @@
 -- `pauli_string::PauliString::get_pauli_unchecked` meets its contract: the tests of the two digits say which letter it is. Assumes nothing.
 use mathlib.Core.Bool.{true, false}
 use mathlib.Core.Path.{sym, ◌∙◌}
-use borrow.Author.Rules.{rules}
 use Rattle.pauli_string.proofs.Places.{letter_at_law}
 use Rattle.pauli_string.proofs.PauliString.get_pauli_unchecked.Goals as goal
 

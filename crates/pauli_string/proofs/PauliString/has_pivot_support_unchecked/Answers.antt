@@ -3,7 +3,6 @@ use mathlib.Core.Bool.{not}
 use mathlib.Core.Path.{◌∙◌, ap}
 use Prim.Native.Nat.{ℕ}
 use lib.Dec.{eqb}
-use borrow.Author.Rules.{rules}
 use Rattle.pauli_string.specs.Strings.{has_pivot}
 use Rattle.pauli_string.proofs.Pivot.{pivot_zero}
 use Rattle.pauli_string.proofs.PauliString.has_pivot_support_unchecked.Goals as goal

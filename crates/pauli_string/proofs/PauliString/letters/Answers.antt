@@ -1,7 +1,6 @@
 -- `pauli_string::PauliString::letters` meets its contract: the test decides which case of the answer holds. Assumes nothing.
 use mathlib.Core.List.{List}
 use mathlib.Core.Path.{ap}
-use borrow.Author.Rules.{rules}
 use Rattle.bicycle_common.specs.declared.Outcome.TheVariants.{Done}
 use Rattle.pauli_string.specs.declared.Letter.{Letter}
 use Rattle.pauli_string.proofs.Range.{is_string_law, no_string}

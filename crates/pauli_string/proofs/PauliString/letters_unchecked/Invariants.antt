@@ -1,16 +1,14 @@
 -- `pauli_string::PauliString::letters_unchecked` meets its contract: the loop fills the array from the front with the letters of the string.
 -- Assumes nothing.
 use mathlib.Core.List.{List, map}
-use mathlib.Core.Path.{◌≡◌, refl, sym, ap, ◌∙◌}
-use Prim.Native.Nat.{ℕ, ◌-◌, ◌<◌}
-use native.Mathlib.Omega.{arith}
-use lib.ListN.{length-map, get_or, get_or-map}
+use mathlib.Core.Path.{◌≡◌}
+use Prim.Native.Nat.{ℕ, ◌-◌}
+use lib.ListN.{get_or}
 use Rattle.bicycle_common.specs.declared.Pauli.TheVariants.{I}
 use Rattle.bicycle_common.specs.declared.Pauli.{Pauli}
-use Rattle.bicycle_common.proofs.Filled.{Filled, filled_none, filled_more, filled_list}
+use Rattle.bicycle_common.proofs.Filled.{Filled}
 use Rattle.pauli_string.specs.Text.{letters}
 use Rattle.pauli_string.specs.declared.Letter.{Letter}
-use Rattle.pauli_string.proofs.Text.{length_letters, letters_at}
 use Rattle.pauli_string.proofs.PauliString.letters_unchecked.Given as goal
 
 abbrev pub wrap : Pauli → Letter

@@ -1,6 +1,5 @@
 -- `pauli_string::PauliString::logical_bits_unchecked` meets its contract: the shifts leave the digits above the pivot. Assumes nothing.
 use native.Mathlib.Omega.{arith}
-use borrow.Author.Rules.{rules}
 use Rattle.pauli_string.proofs.Rotation.{logical_word}
 use Rattle.pauli_string.proofs.PauliString.logical_bits_unchecked.Goals as goal
 

@@ -1,6 +1,5 @@
 -- `pauli_string::PauliString::non_trivial_support` meets its contract: the tests decide which case of the answer holds. Assumes nothing.
 use mathlib.Core.Path.{sym, ap, ◌∙◌}
-use borrow.Author.Rules.{rules}
 use Rattle.pauli_string.specs.declared.BoolAnswer.TheVariants.{Is}
 use Rattle.pauli_string.proofs.Range.{is_string_law, no_string}
 use Rattle.pauli_string.proofs.PauliString.non_trivial_support.Goals as goal

@@ -1,6 +1,5 @@
 -- `pauli_string::PauliString::pivot_bits` meets its contract: the tests decide which case of the answer holds. Assumes nothing.
 use mathlib.Core.Path.{ap}
-use borrow.Author.Rules.{rules}
 use Rattle.pauli_string.specs.Answers.{string}
 use Rattle.pauli_string.proofs.Range.{is_string_law, no_string}
 use Rattle.pauli_string.proofs.PauliString.pivot_bits.Goals as goal

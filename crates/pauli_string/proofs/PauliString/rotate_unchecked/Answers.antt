@@ -1,7 +1,6 @@
 -- `pauli_string::PauliString::rotate_unchecked` meets its contract: it conjugates by the blanked string. Assumes nothing.
 use mathlib.Core.Path.{ap, ◌∙◌}
 use native.Mathlib.Omega.{arith}
-use borrow.Author.Rules.{rules}
 use Rattle.pauli_string.specs.Strings.{conj, rotate}
 use Rattle.pauli_string.proofs.Pivot.{blank_le}
 use Rattle.pauli_string.proofs.PauliString.rotate_unchecked.Goals as goal

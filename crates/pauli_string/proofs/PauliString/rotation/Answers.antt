@@ -1,7 +1,6 @@
 -- `pauli_string::PauliString::rotation` meets its contract: the shifts leave room for the pivot, and the test decides the refusal. Assumes nothing.
 use mathlib.Core.Path.{ap}
 use lib.Dec.{lit≤}
-use borrow.Author.Rules.{rules}
 use Rattle.pauli_string.specs.Answers.{string}
 use Rattle.pauli_string.proofs.Rotation.{rotation_word}
 use Rattle.pauli_string.proofs.Range.{is_string_law, no_string}

@@ -2,7 +2,6 @@
 use mathlib.Core.Path.{ap, ap₂, ◌∙◌}
 use Prim.Native.Nat.{ℕ, ◌+◌}
 use native.Mathlib.Nat.{add_comm}
-use borrow.Author.Rules.{rules}
 use Rattle.bicycle_common.specs.Letters.{x_of, z_of}
 use Rattle.pauli_string.specs.Strings.{set_bit, set_letter}
 use Rattle.pauli_string.proofs.PauliString.set_pauli_unchecked.Goals as goal
