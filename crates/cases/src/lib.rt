@@ -1,4 +1,5 @@
 // A case of a program that is held to what it writes: its name and its answer on a line, and how much of lent memory stayed.
+// Where a write fails, a function answers with that error; what it wrote before may stand.
 #![tactic(auto)]
 
 ghost use Rattle.std.specs.Prelude.{◌≤◌, length};
@@ -10,7 +11,6 @@ use std::io;
 // What lent memory holds before a call. No text has such a byte.
 pub const OTHER: u8 = 165;
 
-// Here and below, an error is of a write that failed; what stood before it may have been written.
 pub fn case(rt: &impl Print, name: &[u8]) -> io::Result<()> {
     say(rt, name)?;
     say(rt, b": ")

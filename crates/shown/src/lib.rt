@@ -1,4 +1,5 @@
 // Answers as text on standard output, for the programs that are held to what they write.
+// Where a write fails, a function answers with that error; what it wrote before may stand.
 #![tactic(auto)]
 
 use bicycle_common::{BicycleISA, Outcome, Refusal};
@@ -17,7 +18,6 @@ pub const IDENTITY: [[u8; 6]; 6] = [
     [0, 0, 0, 0, 0, 1],
 ];
 
-// Here and below, an error is of a write that failed; what stood before it may have been written.
 pub fn say(rt: &impl Print, words: &[u8]) -> io::Result<()> {
     rt.write_all(words)
 }
