@@ -1,5 +1,5 @@
 // A case of a program that is held to what it writes: its name and its answer on a line, and how much of lent memory stayed.
-// Where a write fails, a function answers with that error; what it wrote before may stand.
+// No function gives an error but that of a write that failed; what it wrote before may stand.
 #![tactic(auto)]
 
 ghost use Rattle.std.specs.Prelude.{◌≤◌, length};

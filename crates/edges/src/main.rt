@@ -1,7 +1,7 @@
 // Runs both sides of each edge that document 01 names and that needs no table; `table_edges` runs those of the calls on tables, and
 // host/tests/tables.rs those that need a whole one. A line for each case, or a listing, to be held to `stdout`, which was written
 // from document 01.
-// Where a write fails, a function answers with that error; what it wrote before may stand.
+// No function gives an error but that of a write that failed; what it wrote before may stand.
 #![tactic(auto)]
 
 use bicycle_common::{LetterAnswer, Pauli};

@@ -1,5 +1,5 @@
 // Answers as text on standard output, for the programs that are held to what they write.
-// Where a write fails, a function answers with that error; what it wrote before may stand.
+// No function gives an error but that of a write that failed; what it wrote before may stand.
 #![tactic(auto)]
 
 use bicycle_common::{BicycleISA, Outcome, Refusal};

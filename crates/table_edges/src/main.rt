@@ -1,6 +1,6 @@
 // Runs the calls on tables at the edges that document 01 names and that need no whole table; host/tests/tables.rs runs the others.
 // A line for each case, to be held to `stdout`, which was written from document 01.
-// Where a write fails, a function answers with that error; what it wrote before may stand.
+// No function gives an error but that of a write that failed; what it wrote before may stand.
 #![tactic(auto)]
 
 use bicycle_common::Outcome;

@@ -4,7 +4,7 @@
 //
 // A line of data/strings holds two strings and the digits for a `rotation`. The other files hold cases: a line that begins
 // with the length of the case, then so many bytes of any kind, then byte 10. The line is written before the answer.
-// Where a write fails, a function answers with that error; what it wrote before may stand.
+// No function gives an error but that of a read or a write that failed; what it wrote before may stand.
 #![tactic(auto)]
 
 ghost use Rattle.std.specs.Prelude.{◌≤◌, ◌<◌, length, IfOk};
