@@ -1,19 +1,23 @@
 // A case of a program that is held to what it writes: its name and its answer on a line, and how much of lent memory stayed.
+// No function gives an error but that of a write that failed; what it wrote before may stand.
+#![tactic(auto)]
+
 ghost use Rattle.std.specs.Prelude.{◌≤◌, length};
 
 use pauli_string::BoolAnswer;
 use shown::say;
+use std::io;
 
 // What lent memory holds before a call. No text has such a byte.
 pub const OTHER: u8 = 165;
 
-pub fn case(name: &[u8]) {
-    say(name);
-    say(b": ");
+pub fn case(rt: &impl Print, name: &[u8]) -> io::Result<()> {
+    say(rt, name)?;
+    say(rt, b": ")
 }
 
-pub fn end() {
-    say(b"\n");
+pub fn end(rt: &impl Print) -> io::Result<()> {
+    say(rt, b"\n")
 }
 
 // How many bytes hold what lent memory held.
@@ -31,14 +35,14 @@ fn untouched(bytes: &[u8]) -> u64
     n
 }
 
-pub fn left(bytes: &[u8]) {
-    case(b"untouched");
-    shown::number(untouched(bytes));
-    end();
+pub fn left(rt: &impl Print, bytes: &[u8]) -> io::Result<()> {
+    case(rt, b"untouched")?;
+    shown::number(rt, untouched(bytes))?;
+    end(rt)
 }
 
-pub fn flag(name: &[u8], answer: BoolAnswer) {
-    case(name);
-    shown::flag(answer);
-    end();
+pub fn flag(rt: &impl Print, name: &[u8], answer: BoolAnswer) -> io::Result<()> {
+    case(rt, name)?;
+    shown::flag(rt, answer)?;
+    end(rt)
 }

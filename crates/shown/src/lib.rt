@@ -1,8 +1,12 @@
 // Answers as text on standard output, for the programs that are held to what they write.
+// No function gives an error but that of a write that failed; what it wrote before may stand.
+#![tactic(auto)]
+
 use bicycle_common::{BicycleISA, Outcome, Refusal};
 use compile::RotationAnswer;
 use native_measurement::{ImplementationAnswer, NativeNumber};
 use pauli_string::{BoolAnswer, Letter, PauliString, StringAnswer};
+use std::io;
 use text::WriteAnswer;
 
 pub const IDENTITY: [[u8; 6]; 6] = [
@@ -14,125 +18,128 @@ pub const IDENTITY: [[u8; 6]; 6] = [
     [0, 0, 0, 0, 0, 1],
 ];
 
-pub fn say(words: &[u8]) {
-    io::write_all(1, words);
+pub fn say(rt: &impl Print, words: &[u8]) -> io::Result<()> {
+    rt.write_all(words)
 }
 
-pub fn space() {
-    say(b" ");
+pub fn space(rt: &impl Print) -> io::Result<()> {
+    say(rt, b" ")
 }
 
-pub fn number(n: u64) {
-    io::print_decimal(1, n);
+pub fn number(rt: &impl Print, n: u64) -> io::Result<()> {
+    rt.print(n)
 }
 
-pub fn refused(r: Refusal) {
-    say(b"refused=");
-    number(r.number() as u64);
+pub fn refused(rt: &impl Print, r: Refusal) -> io::Result<()> {
+    say(rt, b"refused=")?;
+    number(rt, r.number() as u64)?;
     let needed = r.needed();
     if needed != 0 {
-        say(b" needed=");
-        number(needed as u64);
+        say(rt, b" needed=")?;
+        number(rt, needed as u64)?;
     }
+    Ok(())
 }
 
-pub fn flag(answer: BoolAnswer) {
+pub fn flag(rt: &impl Print, answer: BoolAnswer) -> io::Result<()> {
     match answer {
-        BoolAnswer::Is(b) => number(b as u64),
-        BoolAnswer::Refused(r) => refused(r),
+        BoolAnswer::Is(b) => number(rt, b as u64),
+        BoolAnswer::Refused(r) => refused(rt, r),
     }
 }
 
 // The number of a string.
-pub fn string(answer: StringAnswer) {
+pub fn string(rt: &impl Print, answer: StringAnswer) -> io::Result<()> {
     match answer {
-        StringAnswer::Is(p) => number(p.0 as u64),
-        StringAnswer::Refused(r) => refused(r),
+        StringAnswer::Is(p) => number(rt, p.0 as u64),
+        StringAnswer::Refused(r) => refused(rt, r),
     }
 }
 
-pub fn text(p: PauliString) {
+pub fn text(rt: &impl Print, p: PauliString) -> io::Result<()> {
     let answer = p.display();
     let outcome = answer.outcome;
     let bytes = answer.bytes;
     match outcome {
-        Outcome::Done => say(&bytes),
-        Outcome::Refused(r) => refused(r),
+        Outcome::Done => say(rt, &bytes),
+        Outcome::Refused(r) => refused(rt, r),
     }
 }
 
-pub fn letter(l: Letter) {
+pub fn letter(rt: &impl Print, l: Letter) -> io::Result<()> {
     let p = l.0;
-    say(&[p.display()]);
+    say(rt, &[p.display()])
 }
 
-fn twelve(letters: [Letter; 12]) {
+fn twelve(rt: &impl Print, letters: [Letter; 12]) -> io::Result<()> {
     let mut i: usize = 0;
     while i < 12 {
-        letter(letters[i]);
+        letter(rt, letters[i])?;
         i += 1;
     }
+    Ok(())
 }
 
 // The letters of a string, qubit 0 first.
-pub fn letters(p: PauliString) {
+pub fn letters(rt: &impl Print, p: PauliString) -> io::Result<()> {
     let answer = p.letters();
     let outcome = answer.outcome;
     let letters = answer.letters;
     match outcome {
-        Outcome::Done => twelve(letters),
-        Outcome::Refused(r) => refused(r),
+        Outcome::Done => twelve(rt, letters),
+        Outcome::Refused(r) => refused(rt, r),
     }
 }
 
 // The first `length` bytes. The test stands for a proof that there are so many.
-fn front(bytes: &[u8], length: usize) {
+fn front(rt: &impl Print, bytes: &[u8], length: usize) -> io::Result<()> {
     if length <= bytes.len() {
-        say(&bytes[0..length]);
+        say(rt, &bytes[0..length])?;
     }
+    Ok(())
 }
 
-fn instruction(isa: BicycleISA) {
+fn instruction(rt: &impl Print, isa: BicycleISA) -> io::Result<()> {
     let text = isa.display();
     let bytes = text.bytes;
-    front(&bytes, text.len);
+    front(rt, &bytes, text.len)
 }
 
-fn three(a: BicycleISA, b: BicycleISA, c: BicycleISA) {
-    instruction(a);
-    space();
-    instruction(b);
-    space();
-    instruction(c);
+fn three(rt: &impl Print, a: BicycleISA, b: BicycleISA, c: BicycleISA) -> io::Result<()> {
+    instruction(rt, a)?;
+    space(rt)?;
+    instruction(rt, b)?;
+    space(rt)?;
+    instruction(rt, c)
 }
 
 // The expansion of a native.
-pub fn native(n: NativeNumber) {
+pub fn native(rt: &impl Print, n: NativeNumber) -> io::Result<()> {
     match native_measurement::implementation(n) {
-        ImplementationAnswer::Is(a, b, c) => three(a, b, c),
-        ImplementationAnswer::Refused(r) => refused(r),
+        ImplementationAnswer::Is(a, b, c) => three(rt, a, b, c),
+        ImplementationAnswer::Refused(r) => refused(rt, r),
     }
 }
 
 // The expansion of a rotation by a native.
-pub fn rotation(mx: &[u8], my: &[u8], n: NativeNumber) {
+pub fn rotation(rt: &impl Print, mx: &[u8], my: &[u8], n: NativeNumber) -> io::Result<()> {
     match compile::rotation_instructions(mx, my, n) {
         RotationAnswer::Is(a, b, c, d, e) => {
-            instruction(a);
-            space();
-            three(b, c, d);
-            space();
-            instruction(e);
+            instruction(rt, a)?;
+            space(rt)?;
+            three(rt, b, c, d)?;
+            space(rt)?;
+            instruction(rt, e)
         }
-        RotationAnswer::Refused(r) => refused(r),
+        RotationAnswer::Refused(r) => refused(rt, r),
     }
 }
 
 // The listing of a plan, or its refusal.
-pub fn plan(input: &[u8]) {
-    let mut out = io::large_buffer();
+pub fn plan(rt: &impl Print, input: &[u8]) -> io::Result<()> {
+    let mut out = [0u8; 65536];
     match listing::list(input, &mut out) {
-        WriteAnswer::Is(length) => front(&out, length),
-        WriteAnswer::Refused(r) => refused(r),
+        WriteAnswer::Is(length) => front(rt, &out, length),
+        WriteAnswer::Refused(r) => refused(rt, r),
     }
 }

@@ -1,9 +1,5 @@
 -- `cases::untouched` meets its contract: it counts no more bytes than it passed. Assumes nothing.
-use Prim.Native.Nat.{◌≤◌, ◌-◌}
-use native.Mathlib.Omega.{arith}
-use lib.ListN.{length}
-use mathlib.Core.Logic.{⊎_elim}
-use borrow.Author.Rules.{rules}
+use Rattle.std.proofs.Common.{length, ◌≤◌, ◌-◌}
 use Rattle.cases.proofs.untouched.Given as goal
 
 abbrev pub invariant-loop-i : goal.invariant-loop-i

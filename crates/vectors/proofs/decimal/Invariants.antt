@@ -1,7 +1,5 @@
 -- `vectors::decimal` meets its contract: a place never passes the end. Assumes nothing.
-use Prim.Native.Nat.{◌≤◌, ◌-◌}
-use lib.ListN.{length}
-use borrow.Author.Rules.{rules}
+use Rattle.std.proofs.Common.{length, ◌≤◌, ◌-◌}
 use Rattle.vectors.proofs.decimal.Given as goal
 
 abbrev pub invariant-loop-i : goal.invariant-loop-i

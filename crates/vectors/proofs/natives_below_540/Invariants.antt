@@ -1,10 +1,9 @@
 -- `vectors::natives_below_540` meets its contract: it counts up to 540. Assumes nothing.
-use Prim.Native.Nat.{◌≤◌, ◌-◌}
-use borrow.Author.Rules.{rules}
+use Rattle.std.proofs.Common.{◌≤◌, ◌-◌}
 use Rattle.vectors.proofs.natives_below_540.Given as goal
 
 abbrev pub invariant-loop-n : goal.invariant-loop-n
-invariant-loop-n l = l.n ≤ 540
+invariant-loop-n g l = l.n ≤ 540
 
 abbrev pub decreases-loop-n : goal.decreases-loop-n
-decreases-loop-n l = 540 - l.n
+decreases-loop-n g l = 540 - l.n
