@@ -1,6 +1,7 @@
 //! Finds the static library, or has it made, and links it.
 
 use std::env;
+use std::fs;
 use std::io::{BufRead, BufReader};
 use std::path::{Path, PathBuf};
 use std::process::{Command, Stdio, exit};
@@ -35,14 +36,27 @@ fn given(folder: &Path) -> PathBuf {
 /// The repository's own folder. The script `library` makes the archive there, in minutes, if it is
 /// missing or older than the crates.
 fn made() -> PathBuf {
-    for source in ["../crates", "../crates.txt", "library"] {
+    for source in ["../crates.txt", "library"] {
         println!("cargo::rerun-if-changed={source}");
+    }
+    for part in parts() {
+        println!("cargo::rerun-if-changed={}", part.display());
     }
     if let Err(sentence) = run("./library") {
         fail(&sentence);
     }
     let host = PathBuf::from(env::var_os("CARGO_MANIFEST_DIR").expect("cargo names it"));
     host.with_file_name("target").join("staticlib")
+}
+
+/// What each crate is made of. Beside it stands `out`, where the prover keeps its work.
+fn parts() -> Vec<PathBuf> {
+    let inside = |folder: &Path| fs::read_dir(folder).into_iter().flatten().flatten();
+    inside(Path::new("../crates"))
+        .flat_map(|folder| inside(&folder.path()))
+        .filter(|part| part.file_name() != "out")
+        .map(|part| part.path())
+        .collect()
 }
 
 /// Runs a script, and passes on what it says: `cargo build -vv` shows that at once. If the script
