@@ -1,6 +1,6 @@
 -- Graphs of numbers, walks in them and their costs, and labellings of their vertices that meet local rules. Assumes nothing.
 use Rattle.std.specs.Prelude.{◌≡◌, ◌⊎◌, ℕ, ◌+◌, ◌≤◌}
-use Rattle.std.proofs.Common.{arith}
+use Rattle.std.proofs.Common.{lit≤}
 
 -- A graph with sources. In: the vertices. Step: the steps, by number. lead p n: where step n leads from p; the same step leads back.
 -- Source p n: p is a source, by number n.
@@ -21,7 +21,7 @@ pub record Costs (G : Graph) : Type 0 where
 
 -- every step costs 1 and a source nothing: a walk's cost is the number of its steps
 abbrev pub steps : (G : Graph) → Costs G
-steps G = record { base = λ n. 0; weight = λ n. 1; positive = λ n s. omega arith }
+steps G = record { base = λ n. 0; weight = λ n. 1; positive = λ n s. lit≤ tt }
 
 -- a walk from a source, with its cost and where it ends
 pub data Walk (G : Graph) (C : Costs G) : ℕ → ℕ → Type 0 where
