@@ -4,6 +4,7 @@
 // so both buffers are long enough for every input.
 #![tactic(auto)]
 
+ghost use Rattle.std.specs.Prelude.{◌≡◌, length};
 ghost use Rattle.std.specs.Io.{ReadsAtMost};
 
 use std::io;
@@ -23,7 +24,8 @@ fn main(rt: HostRuntime) -> io::Result<()> {
 // Reads until the buffer is full or the input ends, and answers how many bytes stand at its front. An error is of a read that
 // failed, and the buffer's front then holds what was read before.
 fn read_full(input: &mut impl Read, buffer: &mut [u8]) -> io::Result<usize>
-    ensures { ReadsAtMost result buffer.new }
+    ensures front { ReadsAtMost result buffer.new }
+    ensures kept { length buffer.new ≡ length buffer.old }
 {
     let mut done = 0;
     while done < buffer.len() {

@@ -7,7 +7,7 @@
 // No function gives an error but that of a read or a write that failed; what it wrote before may stand.
 #![tactic(auto)]
 
-ghost use Rattle.std.specs.Prelude.{◌≤◌, ◌<◌, length, IfOk};
+ghost use Rattle.std.specs.Prelude.{◌≡◌, ◌≤◌, ◌<◌, length, IfOk};
 ghost use Rattle.std.specs.Io.{ReadsAtMost};
 
 use bicycle_common::{LetterAnswer, Pauli};
@@ -250,7 +250,8 @@ fn case(rt: &impl Print, s: &[u8], at: usize, is_plan: bool) -> io::Result<usize
 // Reads a file to the front of the buffer, and answers how many bytes stand there. An error is of an opening or a read that
 // failed, and the buffer's front then holds what was read before.
 fn load(rt: &impl Files, name: &str, buffer: &mut [u8]) -> io::Result<usize>
-    ensures { ReadsAtMost result buffer.new }
+    ensures front { ReadsAtMost result buffer.new }
+    ensures kept { length buffer.new ≡ length buffer.old }
 {
     let mut file = File::open(rt, name)?;
     let mut done = 0;

@@ -1,4 +1,4 @@
--- `bicycle_common::TwoBases::new` meets its contract: the two tests decide which case of `basesOf` holds. Assumes nothing.
+-- `bicycle_common::TwoBases::new` meets its contract: the two tests decide which case of `bases_of` holds. Assumes nothing.
 use mathlib.Core.Path.{sym, ◌∙◌}
 use Rattle.bicycle_common.proofs.TwoBases.new.Goals as goal
 
