@@ -1,37 +1,28 @@
--- What is promised of plans and their listings: document 01's own example and an input for each refusal, computed; which line decides; what is
--- read is a true plan; what a plan measures; a listing states its plan again; and how much of an input matters. Assumes nothing.
-use Rattle.std.specs.Prelude.{List, [], ◌∷◌, ◌++◌, map, ◌≡◌, refl, ℕ, ◌+◌, ◌*◌, ◌<◌, ◌≤◌, length, get_or, take, drop}
-use Rattle.std.proofs.Common.{ap, subst, ◌∙◌, arith, lt-ltb, le-ltb}
+-- What is promised of plans and their listings: document 01's own example and an input for each refusal; which line decides; what is read is a
+-- true plan; what a plan measures; a listing states its plan again; and how much of an input matters. That the worked inputs print what stands
+-- here, and that `plan` prints the whole output, is proved in `proofs/Listings.antt`. Assumes nothing.
+use Rattle.std.specs.Prelude.{List, [], ◌∷◌, ◌++◌, ◌≡◌, ℕ, ◌+◌, ◌*◌, ◌<◌, ◌≤◌, length, take, drop}
+use Rattle.std.proofs.Common.{ap, ◌∙◌, arith, lt-ltb}
 use Prim.Native.String.{String}
-use Rattle.std.proofs.Math.Seq.{take-append_seam}
 use Rattle.bicycle_common.specs.declared.Refusal.{Refusal}
 use Rattle.bicycle_common.specs.declared.Refusal.TheVariants.{Identity, Room, PlanInput}
 use Rattle.bicycle_common.specs.Refusals.{refused}
 use Rattle.bicycle_common.specs.Bytes.{bytes_of}
-use Rattle.bicycle_common.specs.Letters.{rank, same, clash}
-use Rattle.bicycle_common.specs.Ranges.{sum, all_below, list_from}
 use Rattle.text.specs.declared.WriteAnswer.{WriteAnswer}
-use Rattle.text.specs.declared.WriteAnswer.TheVariants.{Is}
 use Rattle.text.specs.Reads.{Read, good, bad}
 use Rattle.text.specs.Fronts.{Written, told_write}
-use Rattle.text.specs.Decimals.{digits_up_to, decimal, all_digits, number_from, is_number}
-use Rattle.pauli_string.specs.Strings.{qubits, bit, letter_at, clashes, commute, conj, pivot_bits, blank, has_pivot, rotate}
-use Rattle.pauli_string.specs.Text.{letters, text}
+use Rattle.pauli_string.specs.Strings.{qubits}
 use Rattle.native_measurement.specs.declared.NativeNumber.{NativeNumber}
-use Rattle.native_measurement.specs.Natives.{native_of}
 use Rattle.measurement.specs.declared.CodeMeasurement.{CodeMeasurement}
-use Rattle.measurement.specs.Matrices.{one, mul, pow, is_binary}
-use Rattle.measurement.specs.Measures.{action, packed, placed, measured as measuredOf, native_string}
 use Rattle.table.specs.Plans.{Gives}
-use Rattle.compile.specs.Expansions.{rotation_by, spaced}
-use Rattle.reader.specs.Lines.{newline, lines, line_at, begins, is_line}
+use Rattle.reader.specs.Lines.{newline, lines, line_at}
 use Rattle.reader.specs.Plans.{Plan, strings_of, numbers, measured_by, measured, most_rotations, matrix_line, native_line, rotation_line, rotation_lines, plan_from, native_lines, read_lines, read_plan}
 use Rattle.reader.specs.Answers.{plan_answer, told_plan}
 use Rattle.reader.proofs.First.{bad_behind, full_behind}
 use Rattle.reader.proofs.Sound.{read_gives}
 use Rattle.reader.proofs.Measured.{measures_zero, zero_base}
 use Rattle.reader.proofs.Bound.{read_length}
-use Rattle.listing.specs.Listings.{base_text, rotation_text, rotations_text, rotation_shifts, shifts, listing, plan_text, output}
+use Rattle.listing.specs.Listings.{shifts, output}
 use Rattle.listing.specs.Stated.{stated, matrices}
 use Rattle.listing.proofs.ShiftCount.{shifts_count}
 use Rattle.listing.proofs.Lengths.{output_length, output_bounded}
@@ -84,13 +75,6 @@ rows =
     ∷ row (x ∷ y ∷ "base=440" ∷ "rotation=0" ∷ []) ("refused=10" ∷ [])
     ∷ row ("mx=000000000000000000000000000000000000" ∷ "my=000000000000000000000000000000000000" ∷ "base=539" ∷ []) ("refused=5" ∷ [])
     ∷ []
-
-pub every_output_is_right : map (λ (r : Row). output (ended r.input)) rows ≡ map (λ (r : Row). ended r.printed) rows
-unfolding rank same clash sum all_below list_from digits_up_to decimal all_digits number_from is_number bit letter_at clashes commute conj pivot_bits blank has_pivot rotate letters text native_of one mul pow is_binary action packed placed measuredOf native_string rotation_by spaced lines begins is_line matrix_line native_line rotation_line rotation_lines plan_from native_lines read_lines read_plan base_text rotation_text rotations_text rotation_shifts listing plan_text output
-every_output_is_right = refl
-
-pub example : output (ended example_input) ≡ ended example_output
-example = ap (λ (l : List (List ℕ)). get_or l 0 []) every_output_is_right
 
 -- ---- which line decides
 
@@ -196,22 +180,3 @@ module _ (s out after : List ℕ) (r : WriteAnswer) (w : Written (good (output s
 
   pub nothing_written : after ≡ out
   nothing_written = w.buffer ∙ simp (lt-ltb (length out) (length (output s)) h)
-
--- so `plan`, which lends the first 4,096 bytes of its input and 65,536 bytes for the text, prints the whole output of every input
-module _ (s out after : List ℕ) (r : WriteAnswer) (long : length out ≡ 65536) (w : Written (good (output (take 4096 s))) out r after) where
-  whole : output (take 4096 s) ≡ output s
-  whole = front_decides 4096 s (omega arith)
-
-  written : Written (good (output s)) out r after
-  written = subst (λ (t : List ℕ). Written (good t) out r after) whole w
-
-  fits : length (output s) ≤ length out
-  fits = omega (arith, longest_output s)
-
-  pub program_answers : r ≡ Is (length (output s))
-  program_answers = written.answer ∙ simp (le-ltb (length out) (length (output s)) fits)
-
-  pub program_prints : take (length (output s)) after ≡ output s
-  program_prints =
-      let b : after ≡ output s ++ drop (length (output s)) out = written.buffer ∙ simp (le-ltb (length out) (length (output s)) fits) in
-      rw b (take-append_seam (output s) (drop (length (output s)) out))

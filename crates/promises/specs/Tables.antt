@@ -3,7 +3,7 @@
 -- of qubits. Assumes nothing.
 use Rattle.std.specs.Prelude.{◌≡◌, true, false, ◌&&◌, List, ℕ, ◌+◌, ◌^◌, ◌≤◌, ◌<◌, length}
 use Rattle.std.proofs.Common.{sym, lit<}
-use Rattle.bicycle_common.proofs.Ranges.{most_at, most_le}
+use Rattle.bicycle_common.proofs.Ranges.{most_at}
 use Rattle.shortest.specs.Graphs.{Has}
 use Rattle.shortest.proofs.Shortest.{agree}
 use Rattle.pauli_string.specs.Strings.{qubits}
@@ -77,12 +77,9 @@ module _ (mx my : Matrix) where
   pub depth_never_passes : (p : ℕ) → p < 4 ^ qubits → depth (value p) ≤ 4194303
   depth_never_passes = Meets.built_depth qubits twelve f small
 
-  -- the depth that a build tells is passed by no entry, and keeps that bound too
+  -- the depth that a build tells is passed by no entry; that it keeps that bound too is `told_depth_never_passes` in `proofs/Tables.antt`
   pub no_depth_passes_the_told : (p : ℕ) → p < 4 ^ qubits → depth (value p) ≤ deepest qubits (built qubits f).table
   no_depth_passes_the_told = most_at (4 ^ qubits) (λ (p : ℕ). depth (value p))
-
-  pub told_depth_never_passes : deepest qubits (built qubits f).table ≤ 4194303
-  told_depth_never_passes = most_le (4 ^ qubits) (λ (p : ℕ). depth (value p)) 4194303 depth_never_passes
 
   -- ---- any table that meets the rules
 
