@@ -15,7 +15,7 @@ use Rattle.pauli_string.specs.Strings.{bit, letter_at, clashes, commute, conj, p
 use Rattle.pauli_string.specs.Text.{letters, text}
 use Rattle.native_measurement.specs.Natives.{native_of}
 use Rattle.measurement.specs.Matrices.{one, mul, pow, is_binary}
-use Rattle.measurement.specs.Measures.{action, packed, placed, measured as measuredOf, native_string}
+use Rattle.measurement.specs.Measures.{action, packed, placed, measured as measured_of, native_string}
 use Rattle.compile.specs.Expansions.{rotation_by, spaced}
 use Rattle.reader.specs.Lines.{lines, begins, is_line}
 use Rattle.reader.specs.Plans.{matrix_line, native_line, rotation_line, rotation_lines, plan_from, native_lines, read_lines, read_plan}
@@ -23,7 +23,7 @@ use Rattle.listing.specs.Listings.{base_text, rotation_text, rotations_text, rot
 use Rattle.promises.specs.Listings.{ended, Row, example_input, example_output, rows, front_decides, longest_output}
 
 pub every_output_is_right : map (λ (r : Row). output (ended r.input)) rows ≡ map (λ (r : Row). ended r.printed) rows
-unfolding rank same clash sum all_below list_from digits_up_to decimal all_digits number_from is_number bit letter_at clashes commute conj pivot_bits blank has_pivot rotate letters text native_of one mul pow is_binary action packed placed measuredOf native_string rotation_by spaced lines begins is_line matrix_line native_line rotation_line rotation_lines plan_from native_lines read_lines read_plan base_text rotation_text rotations_text rotation_shifts listing plan_text output
+unfolding rank same clash sum all_below list_from digits_up_to decimal all_digits number_from is_number bit letter_at clashes commute conj pivot_bits blank has_pivot rotate letters text native_of one mul pow is_binary action packed placed measured_of native_string rotation_by spaced lines begins is_line matrix_line native_line rotation_line rotation_lines plan_from native_lines read_lines read_plan base_text rotation_text rotations_text rotation_shifts listing plan_text output
 every_output_is_right = refl
 
 pub example : output (ended example_input) ≡ ended example_output

@@ -20,8 +20,8 @@ searched : (c : After-search_unchecked-c)
 unfolding built
 searched c = c.search_unchecked-c.ensures ∙ ap (in_turn (4 ^ qubits) (expand qubits (at c.args.strings.now))) c.seeds_unchecked-n.ensures.0
 
-searched-good : (c : After-search_unchecked-c) → Good qubits (built qubits (at c.args.strings.now))
-searched-good c = built_good qubits twelve (at c.args.strings.now) c.requires.held.0.small
+searched_good : (c : After-search_unchecked-c) → Good qubits (built qubits (at c.args.strings.now))
+searched_good c = built_good qubits twelve (at c.args.strings.now) c.requires.held.0.small
 
 pub search_unchecked-c-requires : goal.search_unchecked-c-requires
 search_unchecked-c-requires c =
@@ -29,9 +29,11 @@ search_unchecked-c-requires c =
 
 pub overflow_add-result : goal.overflow_add-result
 overflow_add-result c =
+    let s = (goal.at.overflow_add-result c).After-search_unchecked-c in
     let w = state c.search_unchecked-c.new.table c.search_unchecked-c.new.queue c.search_unchecked-c.result in
-    omega (arith, count_below qubits w (subst (Good qubits) (sym (searched (goal.at.overflow_add-result c).After-search_unchecked-c)) (searched-good (goal.at.overflow_add-result c).After-search_unchecked-c)))
+    omega (arith, count_below qubits w (subst (Good qubits) (sym (searched s)) (searched_good s)))
 
 pub returns : goal.returns
 returns c =
-    built_outcome qubits c.search_unchecked-c.new.table c.search_unchecked-c.new.queue c.search_unchecked-c.result c.deepest-d.result (built qubits (at c.args.strings.now)) (searched (goal.at.returns c).After-search_unchecked-c) (searched-good (goal.at.returns c).After-search_unchecked-c) c.deepest-d.ensures
+    let s = (goal.at.returns c).After-search_unchecked-c in
+    built_outcome qubits c.search_unchecked-c.new.table c.search_unchecked-c.new.queue c.search_unchecked-c.result c.deepest-d.result (built qubits (at c.args.strings.now)) (searched s) (searched_good s) c.deepest-d.ensures

@@ -45,7 +45,8 @@ overflow_add-depth c = omega (arith, rooms (goal.at.overflow_add-depth c).Start 
 
 pub put_unchecked-requires-2 : goal.put_unchecked-requires-2
 put_unchecked-requires-2 c =
-    omega (arith, rooms (goal.at.put_unchecked-requires-2 c).Start (c.has.ensures.1 c.if-has.false), long (goal.at.put_unchecked-requires-2 c).Start)
+    let s = (goal.at.put_unchecked-requires-2 c).Start in
+    omega (arith, rooms s (c.has.ensures.1 c.if-has.false), long s)
 
 pub note-requires : goal.note-requires
 note-requires c =

@@ -19,13 +19,15 @@ returns-then-not-falls c = simp (c.falls.ensures (not-true _ c.if-not-falls.true
 
 pub returns-then-not-falls-2 : goal.returns-then-not-falls-2
 returns-then-not-falls-2 c =
+    let at_start = (goal.at.returns-then-not-falls-2 c).Start in
     let a = c.args in
-    sym (ap (λ (b : Bool). s (goal.at.returns-then-not-falls-2 c).Start a.x && b && s (goal.at.returns-then-not-falls-2 c).Start a.y) (c.falls-2.ensures (not-true _ c.if-not-falls-2.true-raw)) ∙ ap (λ (b : Bool). b && s (goal.at.returns-then-not-falls-2 c).Start a.y) (and-false (s (goal.at.returns-then-not-falls-2 c).Start a.x)))
+    sym (ap (λ (b : Bool). s at_start a.x && b && s at_start a.y) (c.falls-2.ensures (not-true _ c.if-not-falls-2.true-raw)) ∙ ap (λ (b : Bool). b && s at_start a.y) (and-false (s at_start a.x)))
 
 pub returns-then-not-falls-3 : goal.returns-then-not-falls-3
 returns-then-not-falls-3 c =
+    let at_start = (goal.at.returns-then-not-falls-3 c).Start in
     let a = c.args in
-    sym (ap (λ (b : Bool). s (goal.at.returns-then-not-falls-3 c).Start a.x && s (goal.at.returns-then-not-falls-3 c).Start a.z && b) (c.falls-3.ensures (not-true _ c.if-not-falls-3.true-raw)) ∙ and-false (s (goal.at.returns-then-not-falls-3 c).Start a.x && s (goal.at.returns-then-not-falls-3 c).Start a.z))
+    sym (ap (λ (b : Bool). s at_start a.x && s at_start a.z && b) (c.falls-3.ensures (not-true _ c.if-not-falls-3.true-raw)) ∙ and-false (s at_start a.x && s at_start a.z))
 
 pub returns-then-not-is_sound : goal.returns-then-not-is_sound
 returns-then-not-is_sound c = simp (sym c.is_sound.ensures ∙ not-true _ c.if-not-is_sound.true-raw) refl

@@ -22,10 +22,12 @@ returns-then-w-eq0 c =
 
 pub returns-then-w-v : goal.returns-then-w-v
 returns-then-w-v c =
-    let l : depth (e (goal.at.returns-then-w-v c).Start c.args.b) < depth (e (goal.at.returns-then-w-v c).Start c.args.a) = omega (arith, c.if-w-v.true, c.entry_unchecked-v.ensures, c.entry_unchecked-w.ensures) in
-    sym (better_fewer (e (goal.at.returns-then-w-v c).Start) c.args.a c.args.b (λ z. c.if-v-eq0.false (c.entry_unchecked-v.ensures ∙ z)) (λ z. c.if-w-eq0.false (c.entry_unchecked-w.ensures ∙ z)) l)
+    let s = (goal.at.returns-then-w-v c).Start in
+    let l : depth (e s c.args.b) < depth (e s c.args.a) = omega (arith, c.if-w-v.true, c.entry_unchecked-v.ensures, c.entry_unchecked-w.ensures) in
+    sym (better_fewer (e s) c.args.a c.args.b (λ z. c.if-v-eq0.false (c.entry_unchecked-v.ensures ∙ z)) (λ z. c.if-w-eq0.false (c.entry_unchecked-w.ensures ∙ z)) l)
 
 pub returns : goal.returns
 returns c =
-    let l : depth (e (goal.at.returns c).Start c.args.a) ≤ depth (e (goal.at.returns c).Start c.args.b) = omega (arith, c.if-w-v.false, c.entry_unchecked-v.ensures, c.entry_unchecked-w.ensures) in
-    sym (better_equal (e (goal.at.returns c).Start) c.args.a c.args.b (λ z. c.if-v-eq0.false (c.entry_unchecked-v.ensures ∙ z)) (λ z. c.if-w-eq0.false (c.entry_unchecked-w.ensures ∙ z)) l)
+    let s = (goal.at.returns c).Start in
+    let l : depth (e s c.args.a) ≤ depth (e s c.args.b) = omega (arith, c.if-w-v.false, c.entry_unchecked-v.ensures, c.entry_unchecked-w.ensures) in
+    sym (better_equal (e s) c.args.a c.args.b (λ z. c.if-v-eq0.false (c.entry_unchecked-v.ensures ∙ z)) (λ z. c.if-w-eq0.false (c.entry_unchecked-w.ensures ∙ z)) l)

@@ -36,9 +36,10 @@ names c =
 
 pub returns-then-out-needed : goal.returns-then-out-needed
 returns-then-out-needed c =
-    let d : c.entry_unchecked-d.result / 1024 ≡ depth (e (goal.at.returns-then-out-needed c).Start c.args.p) = ap depth c.entry_unchecked-d.ensures in
-    refuses (found qubits (f (goal.at.returns-then-out-needed c).Start) (e (goal.at.returns-then-out-needed c).Start) c.args.p (length c.args.out.now)) (Room (2 * (c.entry_unchecked-d.result / 1024))) c.args.out.now
-    (found_short qubits (f (goal.at.returns-then-out-needed c).Start) (e (goal.at.returns-then-out-needed c).Start) c.args.p (length c.args.out.now) (omega (arith, c.if-out-needed.true)) ∙ ap (λ (n : ℕ). refusing (Room (2 * n))) (sym d))
+    let s = (goal.at.returns-then-out-needed c).Start in
+    let d : c.entry_unchecked-d.result / 1024 ≡ depth (e s c.args.p) = ap depth c.entry_unchecked-d.ensures in
+    refuses (found qubits (f s) (e s) c.args.p (length c.args.out.now)) (Room (2 * (c.entry_unchecked-d.result / 1024))) c.args.out.now
+    (found_short qubits (f s) (e s) c.args.p (length c.args.out.now) (omega (arith, c.if-out-needed.true)) ∙ ap (λ (n : ℕ). refusing (Room (2 * n))) (sym d))
 
 pub write_rotations-bottom-requires : goal.write_rotations-bottom-requires
 write_rotations-bottom-requires c =
@@ -50,15 +51,17 @@ entry_unchecked-requires c =
 
 pub overflow_sub-n : goal.overflow_sub-n
 overflow_sub-n c =
-    let v : c.entry_unchecked.result ≡ e (goal.at.overflow_sub-n c).Start (bottom qubits (f (goal.at.overflow_sub-n c).Start) (e (goal.at.overflow_sub-n c).Start) c.args.p) = c.entry_unchecked.ensures ∙ ap (e (goal.at.overflow_sub-n c).Start) c.write_rotations-bottom.ensures.0 in
-    omega (arith, v, (names (goal.at.overflow_sub-n c).Start).some)
+    let s = (goal.at.overflow_sub-n c).Start in
+    let v : c.entry_unchecked.result ≡ e s (bottom qubits (f s) (e s) c.args.p) = c.entry_unchecked.ensures ∙ ap (e s) c.write_rotations-bottom.ensures.0 in
+    omega (arith, v, (names s).some)
 
 pub returns : goal.returns
 returns c =
+    let s = (goal.at.returns c).Start in
     let p = c.args.p in
     let l = c.args.out.now in
-    let d : c.entry_unchecked-d.result / 1024 ≡ depth (e (goal.at.returns c).Start p) = ap depth c.entry_unchecked-d.ensures in
-    subst (λ (o : Lookup). Leaves o l (plan_by c.write_rotations-bottom.result (named c.entry_unchecked.result) (c.entry_unchecked-d.result / 1024) p (rotations qubits (f (goal.at.returns c).Start) (e (goal.at.returns c).Start) p)).answer c.write_rotations-bottom.new.out)
-    (sym (found_fits qubits (f (goal.at.returns c).Start) (e (goal.at.returns c).Start) p (length l) (omega (arith, c.if-out-needed.false))))
-    (plans qubits (f (goal.at.returns c).Start) (e (goal.at.returns c).Start) p c.write_rotations-bottom.result (named c.entry_unchecked.result) (c.entry_unchecked-d.result / 1024) l c.write_rotations-bottom.new.out
+    let d : c.entry_unchecked-d.result / 1024 ≡ depth (e s p) = ap depth c.entry_unchecked-d.ensures in
+    subst (λ (o : Lookup). Leaves o l (plan_by c.write_rotations-bottom.result (named c.entry_unchecked.result) (c.entry_unchecked-d.result / 1024) p (rotations qubits (f s) (e s) p)).answer c.write_rotations-bottom.new.out)
+    (sym (found_fits qubits (f s) (e s) p (length l) (omega (arith, c.if-out-needed.false))))
+    (plans qubits (f s) (e s) p c.write_rotations-bottom.result (named c.entry_unchecked.result) (c.entry_unchecked-d.result / 1024) l c.write_rotations-bottom.new.out
     c.write_rotations-bottom.ensures.0 (ap named c.entry_unchecked.ensures) d c.write_rotations-bottom.ensures.1)

@@ -17,15 +17,18 @@ holds c = counted c.args.any qubits side c.args.table.now c.args.mx.now c.args.m
 
 pub slice_bounds-result-end : goal.slice_bounds-result-end
 slice_bounds-result-end c =
+    let s = (goal.at.slice_bounds-result-end c).Start in
     let i = c.look_up in
-    front_fits (asked (goal.at.slice_bounds-result-end c).Start) c.args.out.now (holds (goal.at.slice_bounds-result-end c).Start) i.result i.new.out i.ensures _ c.in-Is.is
+    front_fits (asked s) c.args.out.now (holds s) i.result i.new.out i.ensures _ c.in-Is.is
 
 pub returns-in-Is : goal.returns-in-Is
 returns-in-Is c =
+    let s = (goal.at.returns-in-Is c).Start in
     let i = c.look_up in
-    (front_is (asked (goal.at.returns-in-Is c).Start) c.args.out.now (holds (goal.at.returns-in-Is c).Start) i.result i.new.out i.ensures _ c.in-Is.is, refl)
+    (front_is (asked s) c.args.out.now (holds s) i.result i.new.out i.ensures _ c.in-Is.is, refl)
 
 pub returns-in-Refused : goal.returns-in-Refused
 returns-in-Refused c =
+    let s = (goal.at.returns-in-Refused c).Start in
     let i = c.look_up in
-    (front_none (asked (goal.at.returns-in-Refused c).Start) c.args.out.now (holds (goal.at.returns-in-Refused c).Start) i.result i.new.out i.ensures _ c.in-Refused.is, refl)
+    (front_none (asked s) c.args.out.now (holds s) i.result i.new.out i.ensures _ c.in-Refused.is, refl)

@@ -20,8 +20,9 @@ f c = pair_string side c.args.mx.now c.args.my.now
 
 pub returns-then-is_missing : goal.returns-then-is_missing
 returns-then-is_missing c =
+    let s = (goal.at.returns-then-is_missing c).Start in
     let a = c.args in
-    refuses (sought qubits (f (goal.at.returns-then-is_missing c).Start) (entry a.table.now) a.any a.p (length a.out.now)) NoEntry a.out.now (sought_none qubits (f (goal.at.returns-then-is_missing c).Start) (entry a.table.now) a.any a.p (length a.out.now) (sym c.is_missing.ensures ∙ c.if-is_missing.true))
+    refuses (sought qubits (f s) (entry a.table.now) a.any a.p (length a.out.now)) NoEntry a.out.now (sought_none qubits (f s) (entry a.table.now) a.any a.p (length a.out.now) (sym c.is_missing.ensures ∙ c.if-is_missing.true))
 
 pub look_sought-requires : goal.look_sought-requires
 look_sought-requires c =

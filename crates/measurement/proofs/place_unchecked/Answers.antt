@@ -24,7 +24,9 @@ pub overflow_mul-result-5 : goal.overflow_mul-result-5
 overflow_mul-result-5 c = omega (arith, high (goal.at.overflow_mul-result-5 c).Start)
 
 pub overflow_add-result-3 : goal.overflow_add-result-3
-overflow_add-result-3 c = omega (arith, low (goal.at.overflow_add-result-3 c).Start, high (goal.at.overflow_add-result-3 c).Start)
+overflow_add-result-3 c =
+    let s = (goal.at.overflow_add-result-3 c).Start in
+    omega (arith, low s, high s)
 
 pub returns : goal.returns
 unfolding placed

@@ -12,4 +12,6 @@ unfolding cell
 cells c = λ i j hi hj. c.runs.ensures i j hi hj ∙ ap (λ (v : ℕ). iterated 6 (at c.args.q) v j) (c.heads-first.ensures.1 i hi)
 
 pub returns : goal.returns
-returns c = (cells (goal.at.returns c).After-runs, cells_small c.args.p c.args.q c.runs.result c.requires.0 c.requires.1 (cells (goal.at.returns c).After-runs))
+returns c =
+    let s = (goal.at.returns c).After-runs in
+    (cells s, cells_small c.args.p c.args.q c.runs.result c.requires.0 c.requires.1 (cells s))

@@ -20,8 +20,9 @@ returns-in-Refused-of_my c =
 
 pub read_natives-requires : goal.read_natives-requires
 read_natives-requires c =
+    let s = (goal.at.read_natives-requires c).After-matrix_line-y in
     let d = c.in_default.is in
-    record { start_in_bounds = c.line_end-second.ensures.1; mx_value = (first_good (head (goal.at.read_natives-requires c).After-matrix_line-y) d, second_good (head (goal.at.read_natives-requires c).After-matrix_line-y) d c.in_default-of_my.is) }
+    record { start_in_bounds = c.line_end-second.ensures.1; mx_value = (first_good (head s) d, second_good (head s) d c.in_default-of_my.is) }
 
 pub returns : goal.returns
 returns c =

@@ -37,7 +37,8 @@ returns-then-is_full c =
 
 pub entry_unchecked-p-requires : goal.entry_unchecked-p-requires
 entry_unchecked-p-requires c =
-    (omega (arith, below (goal.at.entry_unchecked-p-requires c).At-loop-i, c.loop-i-test.true), long (goal.at.entry_unchecked-p-requires c).At-loop-i)
+    let s = (goal.at.entry_unchecked-p-requires c).At-loop-i in
+    (omega (arith, below s, c.loop-i-test.true), long s)
 
 pub refresh_unchecked-since-requires : goal.refresh_unchecked-since-requires
 refresh_unchecked-since-requires c =

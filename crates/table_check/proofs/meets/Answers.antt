@@ -38,13 +38,14 @@ calm-requires c =
 
 pub returns : goal.returns
 returns c =
+    let s = (goal.at.returns c).After-height-h in
     let r = c.is_rooted in
     let a = c.args in
     let f = at a.strings.now in
     let e = entry a.table.now in
-    let l : a.top < height (e a.p) = omega (arith, read (goal.at.returns c).After-height-h, c.if-h-top.false) in (
+    let l : a.top < height (e a.p) = omega (arith, read s, c.if-h-top.false) in (
       decides_same c.calm.result
           (λ k. record { rooted = decides_yes (not-false r.result c.if-not-is_rooted.false-raw) r.ensures; steady = λ _. k }, λ t. t.steady l)
-          (subst (λ (n : ℕ). Decides c.calm.result (Calm qubits f e a.p n)) (read (goal.at.returns c).After-height-h) (c.calm.ensures.0 f c.requires.xs_len.2)),
+          (subst (λ (n : ℕ). Decides c.calm.result (Calm qubits f e a.p n)) (read s) (c.calm.ensures.0 f c.requires.xs_len.2)),
       c.calm.ensures.1,
     )

@@ -26,11 +26,12 @@ sink_of-requires c =
 
 pub returns : goal.returns
 returns c =
+    let s = (goal.at.returns c).After-height-h in
     let a = c.args in
     let e = entry a.table.now in
     let xs = c.neighbours.new.xs in
-    let low : height (e a.x) + 2 ≤ a.top = omega (arith, read (goal.at.returns c).After-height-h, c.if-top-h.false) in (
+    let low : height (e a.x) + 2 ≤ a.top = omega (arith, read s, c.if-top-h.false) in (
       λ f t. high_blames qubits a.x a.rs.now a.m xs c.neighbours.ensures f t e a.top a.end c.sink_of.result low
-          (subst (λ (k : ℕ). Least (High e k xs a.m) a.end c.sink_of.result) (read (goal.at.returns c).After-height-h) c.sink_of.ensures),
+          (subst (λ (k : ℕ). Least (High e k xs a.m) a.end c.sink_of.result) (read s) c.sink_of.ensures),
       c.neighbours.ensures.long,
     )

@@ -18,12 +18,12 @@ use Rattle.pauli_string.proofs.PauliString.from_letters.Goals as goal
 use Rattle.pauli_string.proofs.PauliString.from_letters.Goals.{At-loop-i}
 
 -- so both fit in twelve bits
-x-small : (c : At-loop-i) → c.loop-i.x < 4096
-x-small c =
+x_small : (c : At-loop-i) → c.loop-i.x < 4096
+x_small c =
     subst (λ (n : ℕ). n < 4096) (sym c.loop-i.invariant.2) (number_small x_of x_of_lt c.args.value 12 c.loop-i.i c.loop-i.invariant.1)
 
-z-small : (c : At-loop-i) → c.loop-i.z < 4096
-z-small c =
+z_small : (c : At-loop-i) → c.loop-i.z < 4096
+z_small c =
     subst (λ (n : ℕ). n < 4096) (sym c.loop-i.invariant.3) (number_small z_of z_of_lt c.args.value 12 c.loop-i.i c.loop-i.invariant.1)
 
 pub loop-i-init : goal.loop-i-init
@@ -34,10 +34,10 @@ loop-i-init c =
     (omega arith, n, ap (number x_of) (sym e), ap (number z_of) (sym e))
 
 pub push-x-requires : goal.push-x-requires
-push-x-requires c = x-small (goal.at.push-x-requires c).At-loop-i
+push-x-requires c = x_small (goal.at.push-x-requires c).At-loop-i
 
 pub push-z-requires : goal.push-z-requires
-push-z-requires c = z-small (goal.at.push-z-requires c).At-loop-i
+push-z-requires c = z_small (goal.at.push-z-requires c).At-loop-i
 
 pub loop-i-preserved : goal.loop-i-preserved
 loop-i-preserved c =
@@ -55,7 +55,8 @@ loop-i-preserved c =
 pub returns : goal.returns
 unfolding string_of
 returns c =
+    let s = (goal.at.returns c).At-loop-i in
     let ls : List Pauli = c.args.value in
     let e : c.loop-i.i ≡ 0 = omega arith in
-    join 32 12 c.loop-i.z c.loop-i.x (lit≤ tt) (z-small (goal.at.returns c).At-loop-i) (x-small (goal.at.returns c).At-loop-i)
+    join 32 12 c.loop-i.z c.loop-i.x (lit≤ tt) (z_small s) (x_small s)
     ∙ ap₂ (λ (z x : ℕ). z * 4096 + x) (c.loop-i.invariant.3 ∙ ap (λ (k : ℕ). number z_of (drop k ls)) e) (c.loop-i.invariant.2 ∙ ap (λ (k : ℕ). number x_of (drop k ls)) e)
