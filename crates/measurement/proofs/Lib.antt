@@ -4,3 +4,4 @@ pub mod Counted
 pub mod Algebra
 pub mod Strings
 pub mod Letters
+pub mod Digits

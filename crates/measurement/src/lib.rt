@@ -265,6 +265,7 @@ pub fn is_matrix(m: &[u8]) -> bool
 // ---- what a native measures
 
 // Six digits as a number, the first at bit 0.
+#[tactic(auto, using(crate::proofs::Digits::six_digits))]
 pub fn packed_unchecked(v: [u8; 6]) -> u32
     requires { (i : ℕ) → i < side → get_or v i 0 ≤ 1 }
     ensures { result ≡ packed side (λ (i : ℕ). get_or v i 0) }
