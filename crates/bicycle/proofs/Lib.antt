@@ -1,3 +1,2 @@
--- Laws that the proofs of the C functions share.
-pub mod Flat
+-- A law that the proof of a C function needs.
 pub mod Narrow

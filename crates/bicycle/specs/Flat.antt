@@ -1,38 +1,23 @@
--- Answers as flat structs, and that each tells the same as the enum. Assumes nothing.
-use Rattle.std.specs.Prelude.{cond, ◌≡◌, refl, List, [], ◌∷◌, ℕ, ltb, length}
+-- Answers as flat structs, and that each tells the same as the Result. Assumes nothing.
+use Rattle.std.specs.Prelude.{cond, ◌≡◌, refl, Bool, List, [], ◌∷◌, ℕ, ltb, length, Result, Ok, Err, Option, Some, None}
 use Rattle.std.proofs.Common.{sym, ap, ◌∙◌}
 use Rattle.bicycle_common.specs.declared.Pauli.{Pauli}
 use Rattle.bicycle_common.specs.declared.Pauli.TheVariants.{I, X, Z, Y}
-use Rattle.bicycle_common.specs.declared.Anticommuting.{Anticommuting}
-use Rattle.bicycle_common.specs.declared.Anticommuting.TheVariants.{Letters, Identity}
-use Rattle.bicycle_common.specs.declared.LetterAnswer.{LetterAnswer}
-use Rattle.bicycle_common.specs.declared.LetterAnswer.TheVariants.{Is as LetterIs, Refused as NoLetter}
+use Rattle.bicycle_common.specs.declared.Refusal.{Refusal}
 use Rattle.bicycle_common.specs.declared.AutomorphismData.{AutomorphismData}
-use Rattle.bicycle_common.specs.Refusals.{Told, number_of, needed_of}
+use Rattle.bicycle_common.specs.Refusals.{Told, number_of, needed_of, told}
 use Rattle.bicycle_common.specs.Letters.{flag, capital, anticommuting_letters, told_letter}
 use Rattle.bicycle_common.specs.Automorphisms.{component, inverse, generators}
-use Rattle.text.specs.declared.WriteAnswer.{WriteAnswer}
-use Rattle.text.specs.declared.WriteAnswer.TheVariants.{Is as Wrote, Refused as NotWritten}
-use Rattle.text.specs.Reads.{Read}
 use Rattle.text.specs.Fronts.{length_in, front_in, told_write}
-use Rattle.pauli_string.specs.declared.BoolAnswer.{BoolAnswer}
-use Rattle.pauli_string.specs.declared.BoolAnswer.TheVariants.{Is as BoolIs, Refused as NoBool}
-use Rattle.pauli_string.specs.declared.StringAnswer.{StringAnswer}
-use Rattle.pauli_string.specs.declared.StringAnswer.TheVariants.{Is as StringIs, Refused as NoString}
+use Rattle.pauli_string.specs.declared.PauliString.{PauliString}
 use Rattle.pauli_string.specs.Answers.{told_bool, told_string}
 use Rattle.native_measurement.specs.Natives.{natives}
-use Rattle.table.specs.declared.NumberAnswer.{NumberAnswer}
-use Rattle.table.specs.declared.NumberAnswer.TheVariants.{Is as NumberIs, Refused as NoNumber}
 use Rattle.table.specs.Answers.{told_number}
-use Rattle.builder.specs.declared.BuildAnswer.{BuildAnswer}
-use Rattle.builder.specs.declared.BuildAnswer.TheVariants.{Is as Built, Refused as NotBuilt}
+use Rattle.builder.specs.declared.Built.{Built}
 use Rattle.builder.specs.Answers.{After, told_build}
-use Rattle.table_check.specs.declared.CheckAnswer.{CheckAnswer}
-use Rattle.table_check.specs.declared.CheckAnswer.TheVariants.{Accepted, Rejected, Refused as NotChecked}
 use Rattle.table_check.specs.Answers.{told_check, Checked}
 use Rattle.table_check.proofs.Answers.{checked_one}
-use Rattle.lookup.specs.declared.LookupAnswer.{LookupAnswer}
-use Rattle.lookup.specs.declared.LookupAnswer.TheVariants.{Is as Found, Refused as NotFound}
+use Rattle.lookup.specs.declared.MeasurementImpl.{MeasurementImpl}
 use Rattle.lookup.specs.Answers.{Lookup, Leaves, told_lookup}
 use Rattle.bicycle.specs.declared.BuildResult.{BuildResult}
 use Rattle.bicycle.specs.declared.CheckResult.{CheckResult}
@@ -52,14 +37,14 @@ Says n vs t = (n ≡ t.number) × (vs ≡ t.values)
 abbrev pub build_refusal : ℕ → BuildResult
 build_refusal n = record { number = n; entries = 0; depth = 0 }
 
-abbrev pub flat_build : BuildAnswer → BuildResult
-flat_build (Built b) = record { number = 0; entries = b.entries; depth = b.depth }
-flat_build (NotBuilt r) = build_refusal (number_of r)
+abbrev pub flat_build : Result Built Refusal → BuildResult
+flat_build (Ok b) = record { number = 0; entries = b.entries; depth = b.depth }
+flat_build (Err r) = build_refusal (number_of r)
 
--- the struct says what the enum does
-pub build_says : (a : BuildAnswer) → Says (flat_build a).number ((flat_build a).entries ∷ (flat_build a).depth ∷ []) (told_build a)
-build_says (Built b) = (refl, refl)
-build_says (NotBuilt r) = (refl, refl)
+-- the struct says what the answer does
+pub build_says : (a : Result Built Refusal) → Says (flat_build a).number ((flat_build a).entries ∷ (flat_build a).depth ∷ []) (told_build a)
+build_says (Ok b) = (refl, refl)
+build_says (Err r) = (refl, refl)
 
 -- r is the answer of an after, and t and u are the buffers that it leaves
 pub record BuildTells (r : BuildResult) (t u : List ℕ) (o : After) : Type 0 where
@@ -73,20 +58,20 @@ pub record BuildTells (r : BuildResult) (t u : List ℕ) (o : After) : Type 0 wh
 abbrev pub check_refusal : ℕ → CheckResult
 check_refusal n = record { number = n; accepted = 0; index = 0 }
 
-abbrev pub flat_check : CheckAnswer → CheckResult
-flat_check Accepted = record { number = 0; accepted = 1; index = 0 }
-flat_check (Rejected p) = record { number = 0; accepted = 0; index = p.0 }
-flat_check (NotChecked r) = check_refusal (number_of r)
+abbrev pub flat_check : Result (Option PauliString) Refusal → CheckResult
+flat_check (Ok None) = record { number = 0; accepted = 1; index = 0 }
+flat_check (Ok (Some p)) = record { number = 0; accepted = 0; index = p.0 }
+flat_check (Err r) = check_refusal (number_of r)
 
--- the struct says what the enum does
-pub check_says : (a : CheckAnswer) → Says (flat_check a).number ((flat_check a).accepted ∷ (flat_check a).index ∷ []) (told_check a)
-check_says Accepted = (refl, refl)
-check_says (Rejected p) = (refl, refl)
-check_says (NotChecked r) = (refl, refl)
+-- the struct says what the answer does
+pub check_says : (a : Result (Option PauliString) Refusal) → Says (flat_check a).number ((flat_check a).accepted ∷ (flat_check a).index ∷ []) (told_check a)
+check_says (Ok None) = (refl, refl)
+check_says (Ok (Some p)) = (refl, refl)
+check_says (Err r) = (refl, refl)
 
 -- r is an answer that the check may give, of which `permits` says which those are
-pub record CheckTells (permits : CheckAnswer → Type 0) (r : CheckResult) : Type 0 where
-  pub answer : CheckAnswer
+pub record CheckTells (permits : Result (Option PauliString) Refusal → Type 0) (r : CheckResult) : Type 0 where
+  pub answer : Result (Option PauliString) Refusal
   pub permitted : permits answer
   pub flat : r ≡ flat_check answer
 
@@ -101,14 +86,14 @@ check_one q s t mx my r r' a b =
 abbrev pub lookup_refusal : ℕ → ℕ → LookupResult
 lookup_refusal k n = record { needed = k; number = n; measures = 0; native = 0; base = 0; rotations = 0 }
 
-abbrev pub flat_lookup : LookupAnswer → LookupResult
-flat_lookup (Found m) = record { needed = 0; number = 0; measures = m.measures.0; native = m.base.native.0; base = m.base.measures.0; rotations = m.rotations }
-flat_lookup (NotFound r) = lookup_refusal (needed_of r) (number_of r)
+abbrev pub flat_lookup : Result MeasurementImpl Refusal → LookupResult
+flat_lookup (Ok m) = record { needed = 0; number = 0; measures = m.measures.0; native = m.base.native.0; base = m.base.measures.0; rotations = m.rotations }
+flat_lookup (Err r) = lookup_refusal (needed_of r) (number_of r)
 
--- the struct says what the enum does, the length needed too
-pub lookup_says : (a : LookupAnswer) → Says (flat_lookup a).number ((flat_lookup a).measures ∷ (flat_lookup a).native ∷ (flat_lookup a).base ∷ (flat_lookup a).rotations ∷ []) (told_lookup a) × ((flat_lookup a).needed ≡ (told_lookup a).needed)
-lookup_says (Found m) = ((refl, refl), refl)
-lookup_says (NotFound r) = ((refl, refl), refl)
+-- the struct says what the answer does, the length needed too
+pub lookup_says : (a : Result MeasurementImpl Refusal) → Says (flat_lookup a).number ((flat_lookup a).measures ∷ (flat_lookup a).native ∷ (flat_lookup a).base ∷ (flat_lookup a).rotations ∷ []) (told_lookup a) × ((flat_lookup a).needed ≡ (told_lookup a).needed)
+lookup_says (Ok m) = ((refl, refl), refl)
+lookup_says (Err r) = ((refl, refl), refl)
 
 -- r is the answer of a lookup, and the buffer is left as the lookup leaves it
 pub record LookupTells (o : Lookup) (before : List ℕ) (r : LookupResult) (after : List ℕ) : Type 0 where
@@ -124,30 +109,33 @@ value_refusal n = record { number = n; value = 0 }
 abbrev pub value_is : ℕ → ValueResult
 value_is v = record { number = 0; value = v }
 
-abbrev pub flat_bool : BoolAnswer → ValueResult
-flat_bool (BoolIs b) = value_is (flag b)
-flat_bool (NoBool r) = value_refusal (number_of r)
+-- an answer whose value is passed on as the number v
+abbrev pub flat_value : {A : Type 0} → (A → ℕ) → Result A Refusal → ValueResult
+flat_value v (Ok a) = value_is (v a)
+flat_value v (Err r) = value_refusal (number_of r)
 
-abbrev pub flat_string : StringAnswer → ValueResult
-flat_string (StringIs p) = value_is p.0
-flat_string (NoString r) = value_refusal (number_of r)
+abbrev pub flat_bool : Result Bool Refusal → ValueResult
+flat_bool = flat_value flag
 
-abbrev pub flat_number : NumberAnswer → ValueResult
-flat_number (NumberIs n) = value_is n
-flat_number (NoNumber r) = value_refusal (number_of r)
+abbrev pub flat_string : Result PauliString Refusal → ValueResult
+flat_string = flat_value (λ (p : PauliString). p.0)
 
--- the struct says what the enum does
-pub bool_says : (a : BoolAnswer) → Says (flat_bool a).number ((flat_bool a).value ∷ []) (told_bool a)
-bool_says (BoolIs b) = (refl, refl)
-bool_says (NoBool r) = (refl, refl)
+abbrev pub flat_number : Result ℕ Refusal → ValueResult
+flat_number = flat_value (λ (n : ℕ). n)
 
-pub string_says : (a : StringAnswer) → Says (flat_string a).number ((flat_string a).value ∷ []) (told_string a)
-string_says (StringIs p) = (refl, refl)
-string_says (NoString r) = (refl, refl)
+-- the struct says what the answer does
+value_says : {A : Type 0} (v : A → ℕ) (a : Result A Refusal) → Says (flat_value v a).number ((flat_value v a).value ∷ []) (told 1 (λ (x : A). v x ∷ []) a)
+value_says v (Ok x) = (refl, refl)
+value_says v (Err r) = (refl, refl)
 
-pub number_says : (a : NumberAnswer) → Says (flat_number a).number ((flat_number a).value ∷ []) (told_number a)
-number_says (NumberIs n) = (refl, refl)
-number_says (NoNumber r) = (refl, refl)
+pub bool_says : (a : Result Bool Refusal) → Says (flat_bool a).number ((flat_bool a).value ∷ []) (told_bool a)
+bool_says = value_says flag
+
+pub string_says : (a : Result PauliString Refusal) → Says (flat_string a).number ((flat_string a).value ∷ []) (told_string a)
+string_says = value_says (λ (p : PauliString). p.0)
+
+pub number_says : (a : Result ℕ Refusal) → Says (flat_number a).number ((flat_number a).value ∷ []) (told_number a)
+number_says = value_says (λ (n : ℕ). n)
 
 -- a native's number as it is passed on: one that is none stands for the first that is none
 abbrev pub narrow : ℕ → ℕ
@@ -159,17 +147,17 @@ narrow n = cond (ltb n natives) n natives
 abbrev pub text_refusal : ℕ → ℕ → TextResult
 text_refusal k n = record { needed = k; length = 0; number = n }
 
-abbrev pub flat_write : WriteAnswer → TextResult
-flat_write (Wrote n) = record { needed = 0; length = n; number = 0 }
-flat_write (NotWritten r) = text_refusal (needed_of r) (number_of r)
+abbrev pub flat_write : Result ℕ Refusal → TextResult
+flat_write (Ok n) = record { needed = 0; length = n; number = 0 }
+flat_write (Err r) = text_refusal (needed_of r) (number_of r)
 
--- the struct says what the enum does, the length needed too
-pub text_says : (a : WriteAnswer) → Says (flat_write a).number ((flat_write a).length ∷ []) (told_write a) × ((flat_write a).needed ≡ (told_write a).needed)
-text_says (Wrote n) = ((refl, refl), refl)
-text_says (NotWritten r) = ((refl, refl), refl)
+-- the struct says what the answer does, the length needed too
+pub text_says : (a : Result ℕ Refusal) → Says (flat_write a).number ((flat_write a).length ∷ []) (told_write a) × ((flat_write a).needed ≡ (told_write a).needed)
+text_says (Ok n) = ((refl, refl), refl)
+text_says (Err r) = ((refl, refl), refl)
 
 -- r is the answer where the text t, or its refusal, is written to a buffer, and the buffer is left so
-pub record TextTells (t : Read (List ℕ)) (before : List ℕ) (r : TextResult) (after : List ℕ) : Type 0 where
+pub record TextTells (t : Result (List ℕ) Refusal) (before : List ℕ) (r : TextResult) (after : List ℕ) : Type 0 where
   pub answer : r ≡ flat_write (length_in (length before) t)
   pub buffer : after ≡ front_in before t
 
@@ -180,24 +168,24 @@ abbrev pub letter_refusal : ℕ → LetterResult
 letter_refusal n = record { number = n; letter = 0; first = 0; second = 0 }
 
 -- the capital c, and those of the letters that anticommute
-abbrev pub capitals : ℕ → Anticommuting → LetterResult
-capitals c (Letters p0 p1) = record { number = 0; letter = c; first = capital p0; second = capital p1 }
-capitals c Identity = record { number = 0; letter = c; first = 0; second = 0 }
+abbrev pub capitals : ℕ → Option (Pauli × Pauli) → LetterResult
+capitals c (Some (p0, p1)) = record { number = 0; letter = c; first = capital p0; second = capital p1 }
+capitals c None = record { number = 0; letter = c; first = 0; second = 0 }
 
 abbrev pub of_letter : Pauli → LetterResult
 of_letter l = capitals (capital l) (anticommuting_letters l)
 
-abbrev pub flat_letter : LetterAnswer → LetterResult
-flat_letter (LetterIs l) = of_letter l
-flat_letter (NoLetter r) = letter_refusal (number_of r)
+abbrev pub flat_letter : Result Pauli Refusal → LetterResult
+flat_letter (Ok l) = of_letter l
+flat_letter (Err r) = letter_refusal (number_of r)
 
--- the struct says the enum's number; its values are capitals, where the enum tells the letter's place
-pub letter_says : (a : LetterAnswer) → (flat_letter a).number ≡ (told_letter a).number
-letter_says (LetterIs I) = refl
-letter_says (LetterIs X) = refl
-letter_says (LetterIs Z) = refl
-letter_says (LetterIs Y) = refl
-letter_says (NoLetter r) = refl
+-- the struct says the answer's number; its values are capitals, where the answer tells the letter's place
+pub letter_says : (a : Result Pauli Refusal) → (flat_letter a).number ≡ (told_letter a).number
+letter_says (Ok I) = refl
+letter_says (Ok X) = refl
+letter_says (Ok Z) = refl
+letter_says (Ok Y) = refl
+letter_says (Err r) = refl
 
 -- ---- automorphisms
 

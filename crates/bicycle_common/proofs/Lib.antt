@@ -4,4 +4,3 @@ pub mod Ranges
 pub mod Filled
 pub mod Letters
 pub mod Automorphisms
-pub mod Generators

@@ -1,14 +1,10 @@
 -- The four letters, which pairs of them anticommute, and the bytes that stand for them. Assumes nothing.
-use Rattle.std.specs.Prelude.{Bool, true, false, cond, not, ◌&&◌, ◌||◌, [], ◌∷◌, ℕ, zero, suc, ◌+◌, ◌*◌, eqb}
+use Rattle.std.specs.Prelude.{Bool, true, false, cond, not, ◌&&◌, ◌||◌, [], ◌∷◌, ℕ, zero, suc, ◌+◌, ◌*◌, eqb, Option, None, Some, Result, Ok, Err}
 use Prim.Native.Char.{code}
 use Rattle.bicycle_common.specs.declared.Pauli.{Pauli}
 use Rattle.bicycle_common.specs.declared.Pauli.TheVariants.{I, X, Z, Y}
-use Rattle.bicycle_common.specs.declared.Anticommuting.{Anticommuting}
-use Rattle.bicycle_common.specs.declared.Anticommuting.TheVariants.{Letters, Identity}
-use Rattle.bicycle_common.specs.declared.LetterAnswer.{LetterAnswer}
-use Rattle.bicycle_common.specs.declared.LetterAnswer.TheVariants.{Is, Refused}
-use Rattle.bicycle_common.specs.declared.TwoBasesAnswer.{TwoBasesAnswer}
-use Rattle.bicycle_common.specs.declared.TwoBasesAnswer.TheVariants.{Is as BasesAre, BothIdentity}
+use Rattle.bicycle_common.specs.declared.TwoBases.{TwoBases}
+use Rattle.bicycle_common.specs.declared.Refusal.{Refusal}
 use Rattle.bicycle_common.specs.declared.Refusal.TheVariants.{NotLetters}
 use Rattle.bicycle_common.specs.Refusals.{Told, answered, refused}
 
@@ -55,12 +51,12 @@ same a b = eqb (rank a) (rank b)
 unfoldable pub clash : Pauli → Pauli → Bool
 clash a b = not (is_i a) && not (is_i b) && not (same a b)
 
--- the letters that anticommute with a letter, in the order of the letters
-abbrev pub anticommuting_letters : Pauli → Anticommuting
-anticommuting_letters I = Identity
-anticommuting_letters X = Letters Z Y
-anticommuting_letters Z = Letters X Y
-anticommuting_letters Y = Letters X Z
+-- the two letters that anticommute with a letter, in the order of the letters; none with the identity
+abbrev pub anticommuting_letters : Pauli → Option (Pauli × Pauli)
+anticommuting_letters I = None
+anticommuting_letters X = Some (Z, Y)
+anticommuting_letters Z = Some (X, Y)
+anticommuting_letters Y = Some (X, Z)
 
 -- ---- bytes
 
@@ -79,20 +75,20 @@ abbrev pub stands_for : ℕ → Pauli → Bool
 stands_for b l = eqb b (capital l) || eqb b (small l)
 
 -- the letter that a byte stands for, or 13
-unfoldable pub read_letter : ℕ → LetterAnswer
+unfoldable pub read_letter : ℕ → Result Pauli Refusal
 read_letter b =
-    cond (stands_for b I) (Is I)
-    (cond (stands_for b X) (Is X)
-    (cond (stands_for b Z) (Is Z)
-    (cond (stands_for b Y) (Is Y)
-    (Refused NotLetters))))
+    cond (stands_for b I) (Ok I)
+    (cond (stands_for b X) (Ok X)
+    (cond (stands_for b Z) (Ok Z)
+    (cond (stands_for b Y) (Ok Y)
+    (Err NotLetters))))
 
 -- what a caller is told: the letter's place in the order I, X, Z, Y
-abbrev pub told_letter : LetterAnswer → Told
-told_letter (Is l) = answered (rank l ∷ [])
-told_letter (Refused r) = refused 1 r
+abbrev pub told_letter : Result Pauli Refusal → Told
+told_letter (Ok l) = answered (rank l ∷ [])
+told_letter (Err r) = refused 1 r
 
 -- ---- two bases: any pair of letters but (I,I)
 
-abbrev pub bases_of : Pauli → Pauli → TwoBasesAnswer
-bases_of p1 p7 = cond (is_i p1 && is_i p7) BothIdentity (BasesAre (record { p1 = p1; p7 = p7 }))
+abbrev pub bases_of : Pauli → Pauli → Option TwoBases
+bases_of p1 p7 = cond (is_i p1 && is_i p7) None (Some (record { p1 = p1; p7 = p7 }))

@@ -1,9 +1,7 @@
 -- The refusals by document 01's numbers, and what a caller is told by an answer. Assumes nothing.
-use Rattle.std.specs.Prelude.{List, ℕ, length, replicate}
+use Rattle.std.specs.Prelude.{List, ℕ, replicate, Result, Ok, Err}
 use Rattle.bicycle_common.specs.declared.Refusal.{Refusal}
 use Rattle.bicycle_common.specs.declared.Refusal.TheVariants.{TableLength, QueueLength, Matrix, StringRange, Identity, PivotSet, NoEntry, BadEntry, Room, PivotIdentity, NativeRange, PlanInput, NotLetters, QubitRange}
-use Rattle.bicycle_common.specs.declared.Outcome.{Outcome}
-use Rattle.bicycle_common.specs.declared.Outcome.TheVariants.{Done, Refused}
 
 -- the first column of the table "Numbers a caller sees"
 abbrev pub number_of : Refusal → ℕ
@@ -55,7 +53,7 @@ answered vs = record { number = 0; needed = 0; values = vs }
 abbrev pub refused : ℕ → Refusal → Told
 refused k r = record { number = number_of r; needed = needed_of r; values = replicate k 0 }
 
--- of values in an array, beside which the outcome stands
-abbrev pub told_outcome : Outcome → List ℕ → Told
-told_outcome Done vs = answered vs
-told_outcome (Refused r) vs = refused (length vs) r
+-- an answer of k values, which v lists
+abbrev pub told : {A : Type 0} → ℕ → (A → List ℕ) → Result A Refusal → Told
+told k v (Ok a) = answered (v a)
+told k v (Err r) = refused k r

@@ -1,18 +1,21 @@
 // Letters, pairs of letters, shift automorphisms, the two instructions that plans use, and the refusals.
 //
 // Follows crates/bicycle_common/src/lib.rs of the Bicycle Architecture Compiler. Changed: written anew in Rattle, with
-// contracts; methods take `self` by value, `Option` became enums, operators and `Display` became plain functions, and
-// what document 01 leaves out is not here. `Refusal`, `Outcome`, `LetterAnswer` and `IsaText` are added.
+// contracts; methods take `self` by value, a letter is read from a byte, `display` answers bytes beside `Display`, and what
+// document 01 leaves out is not here. `Refusal` and `IsaText` are added.
 //
 // Copyright contributors to the Bicycle Architecture Compiler project. Licensed under the Apache License, Version 2.0
 // (see NOTICE).
 #![tactic(auto)]
 
-ghost use Rattle.std.specs.Prelude.{◌≡◌};
+ghost use Rattle.std.specs.Prelude.{◌≡◌, [], ◌∷◌, Some};
 ghost use Rattle.bicycle_common.specs.Refusals.{number_of, needed_of};
-ghost use Rattle.bicycle_common.specs.Letters.{flag, x_of, z_of, is_i, anticommuting_letters, capital, read_letter, bases_of};
+ghost use Rattle.bicycle_common.specs.Letters.{flag, x_of, z_of, anticommuting_letters, capital, read_letter, bases_of};
 ghost use Rattle.bicycle_common.specs.Automorphisms.{component, of_pair, inverse, product, is_identity, generators};
-ghost use Rattle.bicycle_common.specs.Instructions.{instruction_shown};
+ghost use Rattle.bicycle_common.specs.Instructions.{instruction_shown, instruction_text};
+
+use std::fmt;
+use std::ops::Mul;
 
 // Why a call refused: a case for each number of document 01, in its order.
 #[derive(Clone, Copy)]
@@ -48,7 +51,7 @@ pub enum Refusal {
 }
 
 impl Refusal {
-    // Document 01's number.
+    // Document 01's number, by arms: the language numbers no cases where one of them holds a value.
     pub fn number(self) -> u8
         ensures { result ≡ number_of self }
     {
@@ -70,37 +73,18 @@ impl Refusal {
         }
     }
 
-    // The length that 9 carries, and 0 with every other number.
+    // The length that 9 carries, and 0 with every other number, as the C structs have it.
     pub fn needed(self) -> usize
         ensures { result ≡ needed_of self }
     {
         match self {
-            Refusal::TableLength => 0,
-            Refusal::QueueLength => 0,
-            Refusal::Matrix => 0,
-            Refusal::StringRange => 0,
-            Refusal::Identity => 0,
-            Refusal::PivotSet => 0,
-            Refusal::NoEntry => 0,
-            Refusal::BadEntry => 0,
             Refusal::Room(length) => length,
-            Refusal::PivotIdentity => 0,
-            Refusal::NativeRange => 0,
-            Refusal::PlanInput => 0,
-            Refusal::NotLetters => 0,
-            Refusal::QubitRange => 0,
+            _ => 0,
         }
     }
 }
 
-// What stands beside an array: that it holds the answer, or the refusal with the array all zeros.
-#[derive(Clone, Copy)]
-pub enum Outcome {
-    Done,
-    Refused(Refusal),
-}
-
-#[derive(Clone, Copy)]
+#[derive(Clone, Copy, PartialEq, Eq)]
 pub enum Pauli {
     I,
     X,
@@ -108,55 +92,31 @@ pub enum Pauli {
     Y,
 }
 
-// The two letters that anticommute with a letter, or that it is the identity, with which every letter commutes.
-#[derive(Clone, Copy)]
-pub enum Anticommuting {
-    Letters(Pauli, Pauli),
-    Identity,
-}
-
-// A letter, or the refusal.
-#[derive(Clone, Copy)]
-pub enum LetterAnswer {
-    Is(Pauli),
-    Refused(Refusal),
-}
-
 impl Pauli {
-    // The letters that anticommute with this one.
-    pub fn anticommuting(self) -> Anticommuting
+    // The two letters that anticommute with this one, in the order of the letters; every letter commutes with the identity.
+    pub fn anticommuting(self) -> Option<(Self, Self)>
         ensures { result ≡ anticommuting_letters self }
     {
         match self {
-            Pauli::I => Anticommuting::Identity,
-            Pauli::X => Anticommuting::Letters(Pauli::Z, Pauli::Y),
-            Pauli::Z => Anticommuting::Letters(Pauli::X, Pauli::Y),
-            Pauli::Y => Anticommuting::Letters(Pauli::X, Pauli::Z),
+            Pauli::I => None,
+            Pauli::X => Some((Pauli::Z, Pauli::Y)),
+            Pauli::Z => Some((Pauli::X, Pauli::Y)),
+            Pauli::Y => Some((Pauli::X, Pauli::Z)),
         }
     }
 
-    // Whether the letter has the X digit: X and Y have it.
+    // Whether the letter has the X digit.
     pub fn has_x(self) -> bool
         ensures { flag result ≡ x_of self }
     {
-        match self {
-            Pauli::I => false,
-            Pauli::X => true,
-            Pauli::Z => false,
-            Pauli::Y => true,
-        }
+        matches!(self, Pauli::X | Pauli::Y)
     }
 
-    // Whether the letter has the Z digit: Z and Y have it.
+    // Whether the letter has the Z digit.
     pub fn has_z(self) -> bool
         ensures { flag result ≡ z_of self }
     {
-        match self {
-            Pauli::I => false,
-            Pauli::X => false,
-            Pauli::Z => true,
-            Pauli::Y => true,
-        }
+        matches!(self, Pauli::Z | Pauli::Y)
     }
 
     // The capital that stands for the letter.
@@ -170,23 +130,36 @@ impl Pauli {
             Pauli::Y => b'Y',
         }
     }
+}
+
+impl fmt::Display for Pauli {
+    ghost output = { λ l. Some (capital l ∷ []) };
+
+    fn fmt<W: fmt::Write>(&self, f: &mut fmt::Formatter<W>) -> fmt::Result {
+        f.write_char(char::from(self.display()))
+    }
+}
+
+impl TryFrom<u8> for Pauli {
+    type Error = Refusal;
+
+    ghost try_from_gives = { λ value answer. answer ≡ read_letter value };
 
     // The letter that a byte stands for, in either case, or 13.
-    pub fn try_from(value: u8) -> LetterAnswer
-        ensures { result ≡ read_letter value }
-    {
+    #[tactic(auto, unfolding(crate::specs::Letters::read_letter))]
+    fn try_from(value: u8) -> Result<Self, Refusal> {
         match value {
-            b'I' | b'i' => LetterAnswer::Is(Pauli::I),
-            b'X' | b'x' => LetterAnswer::Is(Pauli::X),
-            b'Z' | b'z' => LetterAnswer::Is(Pauli::Z),
-            b'Y' | b'y' => LetterAnswer::Is(Pauli::Y),
-            _ => LetterAnswer::Refused(Refusal::NotLetters),
+            b'I' | b'i' => Ok(Pauli::I),
+            b'X' | b'x' => Ok(Pauli::X),
+            b'Z' | b'z' => Ok(Pauli::Z),
+            b'Y' | b'y' => Ok(Pauli::Y),
+            _ => Err(Refusal::NotLetters),
         }
     }
 }
 
-// A shift automorphism, an element of Z6 x Z6. Components are reduced before any use, so it does not matter how a value
-// was made.
+// A shift automorphism, an element of Z6 x Z6. Components are reduced where they are read, since `component` in the
+// contracts speaks of any two numbers.
 #[derive(Clone, Copy)]
 pub struct AutomorphismData {
     x: u8,
@@ -213,25 +186,16 @@ impl AutomorphismData {
     }
 
     // How many generators of the architecture make this automorphism, by the original's cases in its order.
+    #[tactic(auto, unfolding(crate::specs::Automorphisms::generators))]
     pub fn nr_generators(self) -> u64
         ensures { result ≡ generators (component self.x) (component self.y) }
     {
-        let x = self.x % 6;
-        let y = self.y % 6;
-        // The pair as a number of two digits stands for the tuple
-        match 10 * x + y {
-            0 => 0,
-            10 | 1 | 50 | 5 => 1,
-            33 | 3 | 30 => 2,
-            _ => {
-                if x == 3 {
-                    return 1;
-                }
-                if y == 3 {
-                    return 1;
-                }
-                2
-            }
+        match (self.get_x(), self.get_y()) {
+            (0, 0) => 0,
+            (1, 0) | (0, 1) | (5, 0) | (0, 5) => 1,
+            (3, 3) | (0, 3) | (3, 0) => 2,
+            (3, _) | (_, 3) => 1,
+            _ => 2,
         }
     }
 
@@ -239,19 +203,23 @@ impl AutomorphismData {
     pub fn inv(self) -> Self
         ensures { result ≡ inverse self }
     {
-        AutomorphismData::new(6 - self.x % 6, 6 - self.y % 6)
+        AutomorphismData::new(6 - self.get_x(), 6 - self.get_y())
     }
 
     pub fn is_id(self) -> bool
         ensures { result ≡ is_identity self }
     {
-        self.x % 6 == 0 && self.y % 6 == 0
+        self.get_x() == 0 && self.get_y() == 0
     }
+}
 
-    pub fn mul(self, rhs: Self) -> Self
-        ensures { result ≡ product self rhs }
-    {
-        AutomorphismData::new(self.x % 6 + rhs.x % 6, self.y % 6 + rhs.y % 6)
+impl Mul for AutomorphismData {
+    type Output = Self;
+
+    ghost mul_gives = { λ a b answer. answer ≡ product a b };
+
+    fn mul(self, rhs: Self) -> Self {
+        AutomorphismData::new(self.get_x() + rhs.get_x(), self.get_y() + rhs.get_y())
     }
 }
 
@@ -262,34 +230,15 @@ pub struct TwoBases {
     p7: Pauli,
 }
 
-// Two bases, or that both letters are the identity.
-#[derive(Clone, Copy)]
-pub enum TwoBasesAnswer {
-    Is(TwoBases),
-    BothIdentity,
-}
-
-fn is_identity(p: Pauli) -> bool
-    ensures { result ≡ is_i p }
-{
-    match p {
-        Pauli::I => true,
-        Pauli::X => false,
-        Pauli::Z => false,
-        Pauli::Y => false,
-    }
-}
-
 impl TwoBases {
-    pub fn new(p1: Pauli, p7: Pauli) -> TwoBasesAnswer
+    // None of two identities.
+    pub fn new(p1: Pauli, p7: Pauli) -> Option<Self>
         ensures { result ≡ bases_of p1 p7 }
     {
-        if is_identity(p1) {
-            if is_identity(p7) {
-                return TwoBasesAnswer::BothIdentity;
-            }
+        if p1 == Pauli::I && p7 == Pauli::I {
+            return None;
         }
-        TwoBasesAnswer::Is(TwoBases { p1, p7 })
+        Some(TwoBases { p1, p7 })
     }
 
     pub fn get_basis_1(self) -> Pauli
@@ -314,7 +263,22 @@ pub enum BicycleISA {
     Measure(TwoBases),
 }
 
-// An instruction as text: `len` bytes, then zeros.
+impl fmt::Display for BicycleISA {
+    ghost output = { λ i. Some (instruction_text i) };
+
+    // The text of an instruction, as `aut(4,5)` or `meas(X,Z)`.
+    fn fmt<W: fmt::Write>(&self, f: &mut fmt::Formatter<W>) -> fmt::Result {
+        match self {
+            BicycleISA::Automorphism(data) => write!(f, "aut({},{})", data.get_x(), data.get_y()),
+            BicycleISA::Measure(bases) => {
+                write!(f, "meas({},{})", bases.get_basis_1(), bases.get_basis_7())
+            }
+        }
+    }
+}
+
+// An instruction as text: `len` bytes, then zeros. Beside `Display`, since `instruction_shown` in the contract of `display`
+// holds the text itself, where that of a `Display` speaks of writes that went well.
 #[derive(Clone, Copy)]
 pub struct IsaText {
     pub bytes: [u8; 9],

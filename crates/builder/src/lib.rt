@@ -8,11 +8,11 @@
 // (see NOTICE).
 #![tactic(auto)]
 
-ghost use Rattle.std.specs.Prelude.{◌≡◌, true, length};
+ghost use Rattle.std.specs.Prelude.{◌≡◌, length};
 ghost use Rattle.pauli_string.specs.Strings.{qubits};
-ghost use Rattle.measurement.specs.Matrices.{side, is_bytes};
+ghost use Rattle.measurement.specs.Matrices.{side};
 ghost use Rattle.measurement.specs.Measures.{pair_string};
-ghost use Rattle.natives.specs.Arrays.{at, Held, flags};
+ghost use Rattle.natives.specs.Arrays.{at};
 ghost use Rattle.table.specs.Bytes.{table_length};
 ghost use Rattle.table.specs.Answers.{deepest};
 ghost use Rattle.discovery.specs.Model.{built};
@@ -20,8 +20,11 @@ ghost use Rattle.builder.specs.Answers;
 ghost use Rattle.builder.specs.Answers.{after, done};
 
 use bicycle_common::Refusal;
+use discovery::Build;
+use measurement::Pair;
+use natives::Natives;
 use pauli_string::STRINGS;
-use table::TABLE_LENGTH;
+use table::{TABLE_LENGTH, Table};
 
 // What was built: the number of entries, identity included, and the greatest depth.
 #[derive(Clone, Copy)]
@@ -30,71 +33,53 @@ pub struct Built {
     pub depth: u32,
 }
 
-#[derive(Clone, Copy)]
-pub enum BuildAnswer {
-    Is(Built),
-    Refused(Refusal),
-}
-
 // The greatest depth in the table.
-fn deepest(table: &[u8]) -> u32
-    requires { length table.now ≡ table_length qubits }
-    ensures { result ≡ deepest qubits table.now }
+fn deepest(table: Table<'_>) -> u32
+    ensures { result ≡ deepest qubits table.entry.bytes.now }
 {
     let mut best: u32 = 0;
-    let mut p: u32 = 0;
-    while p < STRINGS {
-        let d = table::entry_unchecked(table, p) / 1024;
-        if best < d {
-            best = d;
-        }
-        p += 1;
+    for p in 0..STRINGS {
+        best = best.max(table.entry_unchecked(p) / 1024);
     }
     best
 }
 
-// The build from the natives' strings and kept flags.
-fn build_from(table: &mut [u8], queue: &mut [u8], strings: &[u32], kept: &[bool; 540]) -> Built
-    requires table_len { (length table.old ≡ table_length qubits) × (length queue.old ≡ table_length qubits) }
-    requires held { Held qubits strings.now × (kept.now ≡ flags (at strings.now)) }
-    ensures { after (Answers.is result) table.new queue.new ≡ done qubits (built qubits (at strings.now)) }
+// The build from the natives. The two lengths are asked, here and below: a `Table` lends its bytes to read alone.
+fn build_from(table: &mut [u8], queue: &mut [u8], natives: &Natives) -> Built
+    requires { (length table.old ≡ table_length qubits) × (length queue.old ≡ table_length qubits) }
+    ensures { after (Ok result) table.new queue.new ≡ done qubits (built qubits (at natives.now.strings)) }
 {
-    discovery::begin_unchecked(table, queue);
-    let n = discovery::seeds_unchecked(table, queue, strings);
-    let c = search::search_unchecked(table, queue, strings, kept, n);
-    let d = deepest(table);
+    let mut b = Build {
+        table,
+        queue,
+        count: 0,
+    };
+    b.begin_unchecked();
+    b.seeds_unchecked(natives);
+    search::search_unchecked(&mut b, natives);
+    let filled = &mut *b.table;
+    let d = deepest(Table { bytes: filled });
     Built {
-        entries: c + 1,
+        entries: b.count + 1,
         depth: d,
     }
 }
 
-fn build_pair(table: &mut [u8], queue: &mut [u8], mx: &[u8], my: &[u8]) -> Built
-    requires table_len { (length table.old ≡ table_length qubits) × (length queue.old ≡ table_length qubits) }
-    requires mx_value { (is_bytes side mx.now ≡ true) × (is_bytes side my.now ≡ true) }
-    ensures { after (Answers.is result) table.new queue.new ≡ done qubits (built qubits (pair_string side mx.now my.now)) }
+// The same for a pair: a function of its own, so that no exit of `build` needs an answer.
+fn build_pair(table: &mut [u8], queue: &mut [u8], pair: Pair<'_>) -> Built
+    requires { (length table.old ≡ table_length qubits) × (length queue.old ≡ table_length qubits) }
+    ensures { after (Ok result) table.new queue.new ≡ done qubits (built qubits (pair_string side pair.entry.mx.now pair.entry.my.now)) }
 {
-    let held = natives::natives_unchecked(mx, my);
-    let strings = held.strings;
-    let kept = held.kept;
-    build_from(table, queue, &strings, &kept)
+    build_from(table, queue, &natives::natives_unchecked(pair))
 }
 
 // Builds the table of the pair, with all discovered strings in order in the queue.
-pub fn build(table: &mut [u8], queue: &mut [u8], mx: &[u8], my: &[u8]) -> BuildAnswer
+pub fn build(table: &mut [u8], queue: &mut [u8], mx: &[u8], my: &[u8]) -> Result<Built, Refusal>
     ensures { after result table.new queue.new ≡ Answers.build qubits side table.old queue.old mx.now my.now }
 {
-    if table.len() != TABLE_LENGTH {
-        return BuildAnswer::Refused(Refusal::TableLength);
-    }
+    Table::new(table)?;
     if queue.len() != TABLE_LENGTH {
-        return BuildAnswer::Refused(Refusal::QueueLength);
+        return Err(Refusal::QueueLength);
     }
-    if !measurement::is_matrix(mx) {
-        return BuildAnswer::Refused(Refusal::Matrix);
-    }
-    if !measurement::is_matrix(my) {
-        return BuildAnswer::Refused(Refusal::Matrix);
-    }
-    BuildAnswer::Is(build_pair(table, queue, mx, my))
+    Ok(build_pair(table, queue, Pair::new(mx, my)?))
 }

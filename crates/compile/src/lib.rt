@@ -8,53 +8,50 @@
 // (see NOTICE).
 #![tactic(auto)]
 
-ghost use Rattle.std.specs.Prelude.{◌≡◌};
+ghost use Rattle.std.specs.Prelude.{◌≡◌, false};
+ghost use Rattle.bicycle_common.specs.Letters.{is_i};
 ghost use Rattle.pauli_string.specs.Strings.{qubits};
 ghost use Rattle.measurement.specs.Matrices.{side};
-ghost use Rattle.compile.specs.Expansions.{rotation_by, rotation_instructions};
+ghost use Rattle.compile.specs.Expansions.{alone, rotation_by, rotation_instructions};
 
-use bicycle_common::{Anticommuting, BicycleISA, Pauli, Refusal, TwoBases, TwoBasesAnswer};
-use native_measurement::{ImplementationAnswer, NativeNumber};
-use pauli_string::{PauliString, StringAnswer};
+use bicycle_common::{BicycleISA, Pauli, Refusal, TwoBases};
+use native_measurement::NativeNumber;
+use pauli_string::PauliString;
 
-// The five instructions of a rotation in their order, or the refusal.
-#[derive(Clone, Copy)]
-pub enum RotationAnswer {
-    Is(BicycleISA, BicycleISA, BicycleISA, BicycleISA, BicycleISA),
-    Refused(Refusal),
+// A measurement of the first pivot alone.
+fn alone(p: Pauli) -> BicycleISA
+    requires { is_i p ≡ false }
+    ensures { result ≡ alone p }
+{
+    BicycleISA::Measure(TwoBases::new(p, Pauli::I).unwrap())
 }
 
 // Compile a native measurement, including conjugating state preparation and measurement. The string that the native
 // measures is at hand.
-pub fn rotation_by_unchecked(n: NativeNumber, measures: PauliString) -> RotationAnswer
+#[tactic(auto, unfolding(crate::specs::Expansions::rotation_by))]
+pub fn rotation_by_unchecked(
+    n: NativeNumber,
+    measures: PauliString,
+) -> Result<[BicycleISA; 5], Refusal>
     ensures { result ≡ rotation_by qubits n.0 measures.0 }
 {
     let pivot_pauli = measures.get_pauli_unchecked(0);
-    let Anticommuting::Letters(p0, p1) = pivot_pauli.anticommuting() else {
-        return RotationAnswer::Refused(Refusal::PivotIdentity);
+    let Some((p0, p1)) = pivot_pauli.anticommuting() else {
+        return Err(Refusal::PivotIdentity);
     };
-    let TwoBasesAnswer::Is(before) = TwoBases::new(p0, Pauli::I) else {
-        return RotationAnswer::Refused(Refusal::PivotIdentity);
-    };
-    let TwoBasesAnswer::Is(after) = TwoBases::new(p1, Pauli::I) else {
-        return RotationAnswer::Refused(Refusal::PivotIdentity);
-    };
-    match native_measurement::implementation(n) {
-        ImplementationAnswer::Is(a, b, c) => {
-            let first = BicycleISA::Measure(before);
-            let last = BicycleISA::Measure(after);
-            RotationAnswer::Is(first, a, b, c, last)
-        }
-        ImplementationAnswer::Refused(r) => RotationAnswer::Refused(r),
-    }
+    let [a, b, c] = native_measurement::implementation(n)?;
+    Ok([alone(p0), a, b, c, alone(p1)])
 }
 
 // The instructions of a rotation by native n: 3, then 11 or 10.
-pub fn rotation_instructions(mx: &[u8], my: &[u8], n: NativeNumber) -> RotationAnswer
+#[tactic(auto, unfolding(crate::specs::Expansions::rotation_instructions))]
+pub fn rotation_instructions(
+    mx: &[u8],
+    my: &[u8],
+    n: NativeNumber,
+) -> Result<[BicycleISA; 5], Refusal>
     ensures { result ≡ rotation_instructions qubits side mx.now my.now n.0 }
 {
-    match measurement::measures_bytes(mx, my, n) {
-        StringAnswer::Is(p) => rotation_by_unchecked(n, p),
-        StringAnswer::Refused(r) => RotationAnswer::Refused(r),
-    }
+    let measures = measurement::measures_bytes(mx, my, n)?;
+    rotation_by_unchecked(n, measures)
 }

@@ -1,3 +1,3 @@
 -- Laws of digits and of the filter that belong to no one function.
 pub mod Digits
-pub mod Filter
+pub mod Filling

@@ -8,15 +8,15 @@
 // (see NOTICE).
 #![tactic(auto)]
 
-ghost use Rattle.std.specs.Prelude.{◌≡◌, ℕ, ◌/◌, ◌^◌, ◌<◌, ◌≤◌, eqb, length};
+ghost use Rattle.std.specs.Prelude.{◌≡◌, ◌/◌, ◌^◌, ◌<◌, ◌≤◌, eqb, length};
 ghost use Rattle.pauli_string.specs.Strings.{qubits};
-ghost use Rattle.native_measurement.specs.Natives.{natives};
-ghost use Rattle.natives.specs.Arrays.{at};
-ghost use Rattle.table.specs.Bytes.{table_length, entry};
+ghost use Rattle.table.specs.Bytes.{entry};
 ghost use Rattle.digits.specs.Digits.{digit, one};
 ghost use Rattle.digits.specs.Filter.{buckets, place, bucket, Covers, Rises, Marked};
 
 use pauli_string::{PauliString, STRINGS};
+use rotations::Rotations;
+use table::Table;
 
 // The filter is filled when this many strings are found, and again after this many turns; chosen by measuring
 const FOUND: u32 = 16700000;
@@ -36,8 +36,7 @@ pub fn set_one_unchecked(bytes: &mut [u8], b: usize)
     requires { b / 8 < length bytes.old }
     ensures { bytes.new ≡ one bytes.old b }
 {
-    let i = b / 8;
-    bytes[i] = bytes[i] | (1 << (b % 8));
+    bytes[b / 8] |= 1 << (b % 8);
 }
 
 // ---- the filter
@@ -49,96 +48,74 @@ fn place(p: u32) -> usize
     (p % 64 + p / 128 % 2048 * 64 + p / 524288 % 16 * 131072) as usize
 }
 
-// Whether the bucket of p is 0.
-pub fn is_clear_unchecked(filter: &[u8; 262144], p: u32) -> bool
-    ensures { result ≡ eqb (bucket filter.now p) 0 }
-{
-    let b = place(p);
-    let v = filter[b / 8];
-    (v >> (b % 8)) % 2 == 0
+// A digit for each bucket, and the turns since they were filled.
+#[derive(Drop)]
+pub struct Filter {
+    pub digits: [u8; 262144],
+    pub since: u32,
+    pub ghost long: { length digits ≡ buckets },
+    pub ghost low: { since ≤ 131072 },
 }
 
-fn set_bucket(p: u32, filter: &mut [u8; 262144])
-    requires { length filter.old ≡ buckets }
-    ensures { (length filter.new ≡ buckets) × Rises filter.old filter.new × (bucket filter.new p ≡ 1) }
-{
-    let b = place(p);
-    let j = b / 8;
-    let v = filter[j];
-    filter[j] = v | 1 << (b % 8);
-}
+impl Filter {
+    // Whether the bucket of p is 0.
+    pub fn is_clear_unchecked(&self, p: u32) -> bool
+        ensures { result ≡ eqb (bucket self.now.digits p) 0 }
+    {
+        !is_one_unchecked(&self.digits, place(p))
+    }
 
-// The bucket of each string that leads to z.
-fn mark(z: u32, rs: &[u32; 540], m: usize, filter: &mut [u8; 262144])
-    requires { (length filter.old ≡ buckets) × (z < 4 ^ qubits) × (m ≤ natives) × ((i : ℕ) → at rs.now i < 4 ^ qubits) }
-    ensures { (length filter.new ≡ buckets) × Rises filter.old filter.new × Marked qubits rs.now filter.new z m }
-{
-    let mut i: usize = 0;
-    while i < m {
-        let r = rs[i];
-        let x = PauliString(z).rotate_unchecked(PauliString(r));
-        set_bucket(x.0, filter);
-        i += 1;
+    // Bucket p becomes 1. No other falls (`Rises`): that is told at each step, since the marks of earlier steps last by it.
+    fn set(&mut self, p: u32)
+        ensures { Rises self.old.digits self.new.digits × (bucket self.new.digits p ≡ 1) }
+    {
+        set_one_unchecked(&mut self.digits, place(p));
     }
-}
 
-// The same, if z is without an entry.
-fn mark_new(table: &[u8], z: u32, rs: &[u32; 540], m: usize, filter: &mut [u8; 262144])
-    requires { (length filter.old ≡ buckets) × (length table.now ≡ table_length qubits) × (z < 4 ^ qubits) × (m ≤ natives) × ((i : ℕ) → at rs.now i < 4 ^ qubits) }
-    ensures { (length filter.new ≡ buckets) × Rises filter.old filter.new × (entry table.now z ≡ 0 → Marked qubits rs.now filter.new z m) }
-{
-    if table::entry_unchecked(table, z) == 0 {
-        mark(z, rs, m, filter);
+    // The bucket of each string that leads to z.
+    fn mark(&mut self, z: u32, r: &Rotations)
+        requires { z < 4 ^ qubits }
+        ensures { Rises self.old.digits self.new.digits × Marked qubits r.now.strings self.new.digits z r.now.count }
+    {
+        for string in &r.strings[..r.count] {
+            let x = PauliString(z).rotate_unchecked(PauliString(*string));
+            self.set(x.0);
+        }
     }
-}
 
-fn wipe(filter: &mut [u8; 262144])
-    requires { length filter.old ≡ buckets }
-    ensures { length filter.new ≡ buckets }
-{
-    let mut j: usize = 0;
-    while j < 262144 {
-        filter[j] = 0;
-        j += 1;
+    // The same, if z is without an entry.
+    fn mark_new(&mut self, table: Table<'_>, z: u32, r: &Rotations)
+        requires { z < 4 ^ qubits }
+        ensures { Rises self.old.digits self.new.digits × (entry table.entry.bytes.now z ≡ 0 → Marked qubits r.now.strings self.new.digits z r.now.count) }
+    {
+        if table.entry_unchecked(z) == 0 {
+            self.mark(z, r);
+        }
     }
-}
 
-// The filter anew: a bucket is 0 where none of its strings leads to a string without an entry.
-fn fill(table: &[u8], rs: &[u32; 540], m: usize, filter: &mut [u8; 262144])
-    requires { (length filter.old ≡ buckets) × (length table.now ≡ table_length qubits) × (m ≤ natives) × ((i : ℕ) → at rs.now i < 4 ^ qubits) }
-    ensures { Covers qubits rs.now m filter.new table.now }
-{
-    wipe(filter);
-    let mut z: u32 = 0;
-    while z < STRINGS {
-        mark_new(table, z, rs, m, filter);
-        z += 1;
+    // The filter anew: a bucket is 0 where none of its strings leads to a string without an entry.
+    fn fill(&mut self, table: Table<'_>, r: &Rotations)
+        ensures { Covers qubits r.now.strings r.now.count self.new.digits table.entry.bytes.now }
+    {
+        self.digits.fill(0);
+        for z in 0..STRINGS {
+            self.mark_new(table, z, r);
+        }
+        self.since = 0;
     }
-}
 
-// Now and then, once few strings are left, the filter is filled. The answer counts the turns since. When that is done
-// makes a difference to the time alone.
-pub fn refresh_unchecked(
-    table: &[u8],
-    rs: &[u32; 540],
-    m: usize,
-    filter: &mut [u8; 262144],
-    p: u32,
-    since: u32,
-    count: u32,
-) -> u32
-    requires { (length table.now ≡ table_length qubits) × (m ≤ natives) × ((i : ℕ) → at rs.now i < 4 ^ qubits) × (since ≤ 131072) × Covers qubits rs.now m filter.old table.now }
-    ensures { (result ≤ 131072) × Covers qubits rs.now m filter.new table.now }
-{
-    if is_clear_unchecked(filter, p) {
-        return since;
+    // Now and then, once few strings are left, the filter is filled. When that is done makes a difference to the time alone.
+    pub fn refresh_unchecked(&mut self, table: Table<'_>, r: &Rotations, p: u32, count: u32)
+        requires { Covers qubits r.now.strings r.now.count self.old.digits table.bytes.now }
+        ensures { Covers qubits r.now.strings r.now.count self.new.digits table.entry.bytes.now }
+    {
+        if self.is_clear_unchecked(p) {
+            return;
+        }
+        if self.since < TURNS {
+            self.since += 1;
+        } else if FOUND <= count {
+            self.fill(table, r);
+        }
     }
-    if since < TURNS {
-        return since + 1;
-    }
-    if count < FOUND {
-        return since;
-    }
-    fill(table, rs, m, filter);
-    0
 }

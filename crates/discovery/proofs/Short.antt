@@ -1,20 +1,20 @@
 -- A short queue is its strings and, behind them, digits: putting a string leaves the digits alone, setting a digit leaves the strings alone,
 -- so the digits tell at every moment which strings have an entry. Assumes nothing.
 use mathlib.Core.Path.{◌≡◌, refl, sym, ap, ap₂, subst, ◌∙◌}
-use mathlib.Core.Bool.{Bool, true, false}
+use mathlib.Core.Bool.{Bool, true, false, not}
 use mathlib.Core.List.{List, ◌∷◌, ◌++◌}
 use Prim.Native.Nat.{ℕ, zero, suc, ◌+◌, ◌-◌, ◌*◌, ◌/◌, ◌%◌, ◌^◌, ◌≤◌, ◌<◌}
 use native.Mathlib.Nat.{le_of_suc-le-suc, not-suc-le-zero, zero-div}
 use native.Mathlib.Omega.{arith}
 use native.Mathlib.Decide.{ℕ_discrete}
-use lib.Dec.{T, lit<}
+use lib.Dec.{T, eqb, lit<}
 use lib.ListN.{length, get_or, set, take, replicate, length-set, length-take, length-append, length-replicate, replicate-append-replicate, get_or-append}
 use lib.Seq.{length-take-le, set-append_left, take-set-le, take-set-lt, get_or-take, get_or-set_other}
 use Rattle.bicycle_common.specs.Ranges.{in_turn}
 use Rattle.pauli_string.specs.Strings.{bit, set_bit}
 use Rattle.natives.specs.Kept.{kept_for}
 use Rattle.shortest.specs.Graphs.{Has}
-use Rattle.table.specs.Bytes.{entry, put, zeros}
+use Rattle.table.specs.Bytes.{table_length, entry, put, zeros}
 use Rattle.table.proofs.Bytes.{length_put, length_zeros, get_or_zeros, entry_zeros, entry_put_same, entry_put_other}
 use Rattle.table.specs.Entries.{value, identity}
 use Rattle.table.proofs.Entries.{value_some}
@@ -25,7 +25,11 @@ use Rattle.discovery.specs.States.{Fits, Good, Asks}
 use Rattle.discovery.specs.Tried.{tried}
 use Rattle.discovery.specs.Short.{fore, strung, note, noted, Notes, Room}
 use Rattle.discovery.proofs.Model.{discover_new, discover_old, seed_none, seed_some}
-use Rattle.discovery.proofs.States.{discovers}
+use Rattle.discovery.proofs.States.{discovers, count_room, depth_room}
+
+-- whether the queue is short, of the bits of the const parameter that says it
+abbrev pub is_short : ℕ → Bool
+is_short b = not (eqb b 0)
 
 -- ---- the front
 
@@ -169,6 +173,18 @@ room_less short c d j k h l s = omega (arith, h s)
 -- ---- one discovery
 
 module _ (short : Bool) (q : ℕ) (F : Fits q) (t l : List ℕ) (c x d n : ℕ) (g : Good q (state t (strung short l) c)) (a : Asks q (state t (strung short l) c) x d n) where
+  -- the queue has its length with and without digits
+  pub queue_long : length l ≡ table_length q
+  queue_long = sym (length_strung short l) ∙ g.queue_long
+
+  -- for a string without an entry there is room in the queue, and for the depth
+  pub rooms : entry t x ≡ 0 → (c + 1 < 4 ^ q) × (d < 4 ^ (q - 1))
+  rooms z = (count_room q F (state t (strung short l) c) g x d n a z, depth_room q F (state t (strung short l) c) g x d n a z)
+
+  -- nothing changes for another
+  pub found_old : (entry t x ≡ 0 → ⊥) → state t (strung short l) c ≡ discover x (value d n) (state t (strung short l) c)
+  found_old h = sym (discover_old (state t (strung short l) c) x (value d n) h)
+
   pub found_new : (T L : List ℕ) → (520093696 + x) / 8 < length l → Room short c 1 → Notes short q l t → entry t x ≡ 0 → T ≡ put t x (value d n) → L ≡ noted short (put l c x) x
       → (state T (strung short L) (c + 1) ≡ discover x (value d n) (state t (strung short l) c)) × Notes short q L T
   found_new T L h r N z eT eL =

@@ -3,3 +3,4 @@ pub mod Model
 pub mod States
 pub mod Tried
 pub mod Short
+pub mod Builds

@@ -11,102 +11,118 @@
 
 ghost use Rattle.std.specs.Prelude.{◌≡◌, true, false, ◌^◌, ◌<◌, length};
 ghost use Rattle.pauli_string.specs.Strings.{qubits};
-ghost use Rattle.native_measurement.specs.Natives.{natives};
-ghost use Rattle.natives.specs.Arrays.{at, Held};
+ghost use Rattle.natives.specs.Arrays.{at};
 ghost use Rattle.shortest.specs.Graphs.{Has};
 ghost use Rattle.table.specs.Bytes.{table_length, entry};
 ghost use Rattle.table.specs.Entries.{value};
 ghost use Rattle.discovery.specs.Model;
-ghost use Rattle.discovery.specs.Model.{state, begun, seeded};
-ghost use Rattle.discovery.specs.States.{Good, Asks};
-ghost use Rattle.discovery.specs.Short.{strung, noted, Notes, Room};
+ghost use Rattle.discovery.specs.Model.{begun, seeded};
+ghost use Rattle.discovery.specs.States.{Asks};
+ghost use Rattle.discovery.specs.Short.{noted, Notes, Room};
+ghost use Rattle.discovery.specs.Builds.{held, Sound, Lent, Comes};
 
-// ---- one discovery
+use natives::Natives;
+use table::Table;
+
+// A table and a queue in the making, and how many strings the queue holds. The queue is as long as a table, and is read
+// as one. No ghost field says that the build is in range, since that would have to hold at each write through a `&mut`,
+// and a discovery is three: `Sound` and `Room` are asked. Nor the two lengths: with a ghost field the struct would
+// import what the contracts here name, and those speak of it. That both buffers are those that were lent (`Lent`) is
+// told by each call, since `builder::build` answers in them.
+#[derive(Drop)]
+pub struct Build<'a> {
+    pub table: &'a mut [u8],
+    pub queue: &'a mut [u8],
+    pub count: u32,
+}
+
+// ---- one discovery; SHORT says whether the queue is short
+
+// While the queue is short its last two mebibytes, from this byte on, hold a digit for each string
+pub const NOTES: usize = 65011712;
 
 // Whether x has an entry. While the queue is short the digits behind it tell, in a fraction of the memory of the table.
-fn has(table: &[u8], queue: &[u8], short: bool, x: u32) -> bool
-    requires { (x < 4 ^ qubits) × (length table.now ≡ table_length qubits) × (length queue.now ≡ table_length qubits) × Notes short qubits queue.now table.now }
-    ensures { (result ≡ true → Has (entry table.now) x) × (result ≡ false → entry table.now x ≡ 0) }
+fn has<const SHORT: bool>(table: Table<'_>, queue: Table<'_>, x: u32) -> bool
+    requires { (x < 4 ^ qubits) × Notes SHORT qubits queue.bytes.now table.bytes.now }
+    ensures { (result ≡ true → Has (entry table.entry.bytes.now) x) × (result ≡ false → entry table.entry.bytes.now x ≡ 0) }
 {
-    if short {
-        return digits::is_one_unchecked(queue, 520093696 + x as usize);
+    if SHORT {
+        digits::is_one_unchecked(queue.bytes, 8 * NOTES + x as usize)
+    } else {
+        table.entry_unchecked(x) != 0
     }
-    table::entry_unchecked(table, x) != 0
 }
 
 // String x, which got an entry, gets its digit behind a short queue.
-fn note(queue: &mut [u8], short: bool, x: u32)
+fn note<const SHORT: bool>(queue: &mut [u8], x: u32)
     requires { (x < 4 ^ qubits) × (length queue.old ≡ table_length qubits) }
-    ensures { queue.new ≡ noted short queue.old x }
+    ensures { queue.new ≡ noted SHORT queue.old x }
 {
-    if short {
-        digits::set_one_unchecked(queue, 520093696 + x as usize);
+    if SHORT {
+        digits::set_one_unchecked(queue, 8 * NOTES + x as usize);
     }
 }
 
-// String x gets an entry, by native n at a depth, and a place in the queue, unless it has one. The answer is the count.
-pub fn discover_unchecked(
-    table: &mut [u8],
-    queue: &mut [u8],
-    short: bool,
-    count: u32,
-    x: u32,
-    depth: u32,
-    n: u32,
-) -> u32
-    requires good { Good qubits (state table.old (strung short queue.old) count) × Asks qubits (state table.old (strung short queue.old) count) x depth n }
-    requires notes { Notes short qubits queue.old table.old × Room short count 1 }
-    ensures { (state table.new (strung short queue.new) result ≡ Model.discover x (value depth n) (state table.old (strung short queue.old) count)) × Notes short qubits queue.new table.new }
-{
-    if has(table, queue, short, x) {
-        return count;
+impl Build<'_> {
+    // String x gets an entry, by native n at a depth, and a place in the queue, unless it has one.
+    pub fn discover_unchecked<const SHORT: bool>(&mut self, x: u32, depth: u32, n: u32)
+        requires sound { Sound SHORT qubits self.old × Room SHORT self.old.count 1 }
+        requires asks { Asks qubits (held SHORT self.old) x depth n }
+        ensures same_reference { Lent self.old self.new }
+        ensures comes { Comes SHORT qubits self.new (Model.discover x (value depth n) (held SHORT self.old)) }
+    {
+        // By names of their own: no field behind `self` can be proved while another one is lent
+        let table = &mut *self.table;
+        let queue = &mut *self.queue;
+        if has::<SHORT>(Table { bytes: table }, Table { bytes: queue }, x) {
+            return;
+        }
+        table::put_unchecked(table, x, 1024 * depth + (n + 1));
+        table::put_unchecked(queue, self.count, x);
+        note::<SHORT>(queue, x);
+        self.count += 1;
     }
-    table::put_unchecked(table, x, 1024 * depth + (n + 1));
-    table::put_unchecked(queue, count, x);
-    note(queue, short, x);
-    count + 1
-}
 
-// ---- the beginning
+    // ---- the beginning
 
-// Both buffers cleared, and the identity's value at index 0.
-pub fn begin_unchecked(table: &mut [u8], queue: &mut [u8])
-    requires { (length table.old ≡ table_length qubits) × (length queue.old ≡ table_length qubits) }
-    ensures { (state table.new (strung true queue.new) 0 ≡ begun qubits) × Notes true qubits queue.new table.new }
-{
-    table::clear_unchecked(table);
-    table::clear_unchecked(queue);
-    table::put_unchecked(table, 0, 541);
-    note(queue, true, 0);
-}
-
-// ---- the sources
-
-// Native n as a source, unless its string is the identity.
-fn seed(table: &mut [u8], queue: &mut [u8], strings: &[u32], n: usize, count: u32) -> u32
-    requires n_lt_natives { (n < natives) × Held qubits strings.now }
-    requires good { Good qubits (state table.old (strung true queue.old) count) × Notes true qubits queue.old table.old × Room true count 1 }
-    ensures { (state table.new (strung true queue.new) result ≡ Model.seed (at strings.now) n (state table.old (strung true queue.old) count)) × Notes true qubits queue.new table.new }
-{
-    let x = strings[n];
-    if x == 0 {
-        return count;
+    // Both buffers cleared, and the identity's value at index 0.
+    pub fn begin_unchecked(&mut self)
+        requires { (length self.old.table.now ≡ table_length qubits) × (length self.old.queue.now ≡ table_length qubits) }
+        ensures same_reference { Lent self.old self.new }
+        ensures comes { Comes true qubits self.new (begun qubits) }
+    {
+        table::clear_unchecked(self.table);
+        table::clear_unchecked(self.queue);
+        table::put_unchecked(self.table, 0, 541);
+        note::<true>(self.queue, 0);
+        self.count = 0;
     }
-    let k = natives::kept_number_unchecked(strings, x);
-    discover_unchecked(table, queue, true, count, x, 0, k as u32)
-}
 
-// All natives as sources, in native order.
-pub fn seeds_unchecked(table: &mut [u8], queue: &mut [u8], strings: &[u32]) -> u32
-    requires held { Held qubits strings.now }
-    requires queue_value { (state table.old (strung true queue.old) 0 ≡ begun qubits) × Notes true qubits queue.old table.old }
-    ensures { (state table.new (strung true queue.new) result ≡ seeded qubits (at strings.now)) × Notes true qubits queue.new table.new }
-{
-    let mut c: u32 = 0;
-    let mut n: usize = 0;
-    while n < 540 {
-        c = seed(table, queue, strings, n, c);
-        n += 1;
+    // ---- the sources
+
+    // Native n as a source, unless its string is the identity.
+    fn seed(&mut self, natives: &Natives, n: usize)
+        requires sound { Sound true qubits self.old × Room true self.old.count 1 }
+        requires below { n < 540 }
+        ensures same_reference { Lent self.old self.new }
+        ensures comes { Comes true qubits self.new (Model.seed (at natives.now.strings) n (held true self.old)) }
+    {
+        let x = natives.strings[n];
+        if x == 0 {
+            return;
+        }
+        let k = natives.kept_number_unchecked(x);
+        self.discover_unchecked::<true>(x, 0, k as u32);
     }
-    c
+
+    // All natives as sources, in native order. By number, as the model counts them (`Model.seed`).
+    pub fn seeds_unchecked(&mut self, natives: &Natives)
+        requires { Comes true qubits self.old (begun qubits) }
+        ensures same_reference { Lent self.old self.new }
+        ensures comes { Comes true qubits self.new (seeded qubits (at natives.now.strings)) }
+    {
+        for n in 0..540 {
+            self.seed(natives, n);
+        }
+    }
 }

@@ -1,31 +1,19 @@
--- How the texts are put together: instructions with spaces between them, and the twelve letters of a string. Assumes nothing.
-use mathlib.Core.Bool.{Bool, true, false, cond}
-use mathlib.Core.List.{List, [], ◌∷◌, ◌++◌, append_assoc}
-use mathlib.Core.Path.{◌≡◌, refl}
-use Prim.Native.Nat.{ℕ, ◌-◌, ◌≤◌}
+-- How the text of an expansion is put together: instructions with spaces between them. Assumes nothing.
+use mathlib.Core.List.{List, [], ◌∷◌, ◌++◌, append-nil}
+use mathlib.Core.Path.{◌≡◌, sym, ap}
+use Prim.Native.Nat.{ℕ, ◌+◌, ◌-◌, ◌*◌, ◌^◌, ◌≤◌, ◌<◌}
 use native.Mathlib.Omega.{arith}
-use lib.ListN.{length, take, replicate, length-replicate}
+use lib.ListN.{length, take, drop, get_or, length-append}
+use lib.Seq.{take_all}
+use Rattle.std.specs.List.{flat_map}
+use Rattle.std.proofs.lemmas.List.Folds.{length-flat_map-take}
 use Rattle.bicycle_common.specs.declared.BicycleISA.{BicycleISA}
 use Rattle.bicycle_common.specs.declared.BicycleISA.TheVariants.{Automorphism, Measure}
-use Rattle.bicycle_common.specs.declared.IsaText.{IsaText}
-use Rattle.bicycle_common.specs.declared.Refusal.{Refusal}
-use Rattle.bicycle_common.specs.declared.Refusal.TheVariants.{StringRange}
-use Rattle.bicycle_common.specs.declared.Outcome.TheVariants.{Done, Refused as Failed}
-use Rattle.bicycle_common.specs.Instructions.{instruction_text, instruction_shown}
+use Rattle.bicycle_common.specs.Instructions.{instruction_text}
+use Rattle.text.specs.declared.Out.{Out}
 use Rattle.text.specs.Puts.{Put}
-use Rattle.text.specs.Reads.{Read, good, bad}
-use Rattle.text.proofs.Puts.{put_none}
-use Rattle.pauli_string.specs.declared.TextAnswer.{TextAnswer}
-use Rattle.pauli_string.specs.Strings.{qubits, is_string}
-use Rattle.pauli_string.specs.Text.{text}
-use Rattle.pauli_string.specs.Answers.{text_answer, printed}
-use Rattle.pauli_string.proofs.Text.{length_text}
-use Rattle.native_measurement.specs.declared.ImplementationAnswer.{ImplementationAnswer}
-use Rattle.native_measurement.specs.declared.ImplementationAnswer.TheVariants.{Is as Three}
-use Rattle.compile.specs.declared.RotationAnswer.{RotationAnswer}
-use Rattle.compile.specs.declared.RotationAnswer.TheVariants.{Is as Five}
-use Rattle.compile.specs.Expansions.{native_expansion, rotation_expansion, space, spaced, expansion_text}
-use Rattle.display.specs.Texts.{string_displayed, native_displayed, rotation_displayed}
+use Rattle.text.proofs.Puts.{put_none, then}
+use Rattle.compile.specs.Expansions.{space, spaced, expansion_text}
 
 -- ---- an instruction
 
@@ -33,76 +21,52 @@ instruction_length : (i : BicycleISA) → length (instruction_text i) ≤ 9
 instruction_length (Automorphism a) = omega arith
 instruction_length (Measure b) = omega arith
 
-shown_length : (i : BicycleISA) → (instruction_shown i).len ≤ length (instruction_shown i).bytes
-shown_length (Automorphism a) = omega arith
-shown_length (Measure b) = omega arith
-
-shown_text : (i : BicycleISA) → take ((instruction_shown i).len - 0) (instruction_shown i).bytes ≡ instruction_text i
-shown_text (Automorphism a) = refl
-shown_text (Measure b) = refl
-
--- t shows the instruction i
-module _ (i : BicycleISA) (t : IsaText) (e : t ≡ instruction_shown i) where
-  pub shown_inside : t.len ≤ length t.bytes
-  shown_inside = rw e (shown_length i)
-
-  pub shown_front : take (t.len - 0) t.bytes ≡ instruction_text i
-  shown_front = rw e (shown_text i)
-
-  pub shown_short : length (take (t.len - 0) t.bytes) ≤ 9
-  shown_short = rw shown_front (instruction_length i)
-
 -- ---- expansions
 
-pub three : (a b c : BicycleISA) → instruction_text a ++ space ∷ instruction_text b ++ space ∷ instruction_text c ≡ expansion_text (a ∷ b ∷ c ∷ [])
+-- an instruction behind another
+abbrev pub behind : BicycleISA → List ℕ
+behind i = space ∷ instruction_text i
+
+expansion_law : (i : BicycleISA) (is : List BicycleISA) → expansion_text (i ∷ is) ≡ instruction_text i ++ flat_map behind is
 unfolding spaced
-three a b c = append_assoc (instruction_text a) (space ∷ instruction_text b) (space ∷ instruction_text c)
+expansion_law i [] = sym (append-nil (instruction_text i))
+expansion_law i (j ∷ is) = ap (λ (r : List ℕ). instruction_text i ++ space ∷ r) (expansion_law j is)
+
+-- the instructions behind the first, as a slice
+abbrev pub others : List BicycleISA → List BicycleISA
+others is = take (length is - 1) (drop 1 is)
+
+expansion_parts : (is : List BicycleISA) (d : BicycleISA) → 1 ≤ length is → expansion_text is ≡ instruction_text (get_or is 0 d) ++ flat_map behind (others is)
+expansion_parts [] d h = absurd (omega arith)
+expansion_parts (i ∷ is) d h = let e : take (length (i ∷ is) - 1) is ≡ is = take_all _ is (omega arith) in rw e (expansion_law i is)
+
+expansion_sum : (is : List BicycleISA) (d : BicycleISA) → 1 ≤ length is → length (expansion_text is) ≡ length (instruction_text (get_or is 0 d)) + length (flat_map behind (others is))
+expansion_sum is d h = rw (expansion_parts is d h) (length-append _ _)
+
+module _ (is : List BicycleISA) (d : BicycleISA) (h : 1 ≤ length is) where
+  -- there is room for the first instruction
+  pub first_room : (at : ℕ) → at + length (expansion_text is) < 2 ^ 64 → at + length (instruction_text (get_or is 0 d)) < 2 ^ 64
+  first_room at r = omega (arith, expansion_sum is d h)
+
+  -- the first is put, and k of those behind it
+  module _ {x y z : Out} (k : ℕ) (p : Put x (instruction_text (get_or is 0 d)) y) (q : Put y (flat_map behind (take k (others is))) z) where
+    -- there is room for one more
+    pub next_room : x.at + length (expansion_text is) < 2 ^ 64 → k < length (others is)
+        → z.at + (1 + length (instruction_text (get_or (others is) k d))) < 2 ^ 64
+    next_room r l = omega (arith, expansion_sum is d h, length-flat_map-take behind (others is) k d l, p.moves, q.moves)
+
+    -- all are
+    pub all_put : length (others is) ≤ k → Put x (expansion_text is) z
+    all_put l = rw (expansion_parts is d h) (then p (rw (take_all k (others is) l) at q))
+
+pub expansion_length : (is : List BicycleISA) → length (expansion_text is) ≤ 10 * length is
+unfolding spaced
+expansion_length [] = omega arith
+expansion_length (i ∷ []) = omega (arith, instruction_length i)
+expansion_length (i ∷ j ∷ is) = rw length-append (omega (arith, instruction_length i, expansion_length (j ∷ is)))
 
 -- no instructions
-pub none : (x : List ℕ) (place : ℕ) → Put x place (expansion_text []) place x
+pub put_no_instruction : (is : List BicycleISA) (x : Out) → length is < 1 → Put x (expansion_text is) x
 unfolding spaced
-none x place = put_none x place
-
-pub five : (a b c d e : BicycleISA) → expansion_text (a ∷ b ∷ c ∷ []) ++ space ∷ instruction_text d ++ space ∷ instruction_text e ≡ expansion_text (a ∷ b ∷ c ∷ d ∷ e ∷ [])
-unfolding spaced
-five a b c d e = simp append_assoc
-
--- the instructions of a native and of a rotation, as the answers that the code holds have them
-pub native_displayed_law : (x : ImplementationAnswer) (a b c : BicycleISA) → x ≡ Three a b c → good (expansion_text (native_expansion x)) ≡ native_displayed x
-native_displayed_law x a b c e = rw e
-
-pub rotation_displayed_law : (x : RotationAnswer) (a b c d e : BicycleISA) → x ≡ Five a b c d e → good (expansion_text (rotation_expansion x)) ≡ rotation_displayed x
-rotation_displayed_law x a b c d e i = rw i
-
--- ---- the text of a string
-
--- what is printed of p, which is or is not a string
-module _ (q p : ℕ) where
-  abbrev printed_if : Bool → TextAnswer
-  printed_if t = cond t (text_answer Done (text q p)) (text_answer (Failed StringRange) (replicate q 0))
-
-  abbrev displayed_if : Bool → Read (List ℕ)
-  displayed_if t = cond t (good (text q p)) (bad StringRange)
-
-  printed_long : (t : Bool) → length (printed_if t).bytes ≡ q
-  printed_long true = length_text q p
-  printed_long false = length-replicate q 0
-
-  printed_done : (t : Bool) → (printed_if t).outcome ≡ Done → good (printed_if t).bytes ≡ displayed_if t
-  printed_done true e = refl
-  printed_done false e = let z : ◌≡◌ {A = ℕ} 0 1 = cc in absurd (omega arith)
-
-  printed_not : (t : Bool) (r : Refusal) → (printed_if t).outcome ≡ Failed r → bad r ≡ displayed_if t
-  printed_not true r e = let z : ◌≡◌ {A = ℕ} 0 1 = cc in absurd (omega arith)
-  printed_not false r e = let i : StringRange ≡ r = cc in rw i
-
--- t prints the number p
-module _ (p : ℕ) (t : TextAnswer) (e : t ≡ printed qubits p) where
-  pub printed_length : length t.bytes ≡ 12
-  printed_length = rw e (printed_long qubits p (is_string qubits p))
-
-  pub string_displayed_law : t.outcome ≡ Done → good t.bytes ≡ string_displayed qubits p
-  string_displayed_law h = rw e (printed_done qubits p (is_string qubits p) (rw e at h))
-
-  pub string_refused : (r : Refusal) → t.outcome ≡ Failed r → bad r ≡ string_displayed qubits p
-  string_refused r h = printed_not qubits p (is_string qubits p) r (rw e at h)
+put_no_instruction [] x h = put_none x
+put_no_instruction (i ∷ is) x h = absurd (omega arith)

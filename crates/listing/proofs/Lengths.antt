@@ -1,5 +1,8 @@
 -- No output has more than 17,496 bytes, which are 22 + 10 + 12 + 44 + 256 * 68, line by line, and the first 3,418 bytes of an input decide it.
 -- Assumes nothing.
+use Rattle.std.specs.Prelude.{Option, Some, None}
+use Rattle.bicycle_common.specs.declared.Pauli.{Pauli}
+use Rattle.std.specs.Prelude.{Result, Ok, Err}
 use mathlib.Core.Bool.{Bool, true, false, cond}
 use mathlib.Core.List.{List, [], ◌∷◌}
 use mathlib.Core.Path.{◌≡◌, refl, ap}
@@ -7,8 +10,6 @@ use Prim.Native.Nat.{ℕ, ◌*◌, ◌≤◌, ◌<◌}
 use native.Mathlib.Omega.{arith}
 use lib.Dec.{ltb}
 use lib.ListN.{length, take, length-append}
-use Rattle.bicycle_common.specs.declared.Anticommuting.{Anticommuting}
-use Rattle.bicycle_common.specs.declared.Anticommuting.TheVariants.{Letters, Identity as NoLetters}
 use Rattle.bicycle_common.specs.declared.Refusal.{Refusal}
 use Rattle.bicycle_common.specs.declared.Refusal.TheVariants.{TableLength, QueueLength, Matrix, StringRange, Identity, PivotSet, NoEntry, BadEntry, Room, PivotIdentity, NativeRange, PlanInput, NotLetters, QubitRange}
 use Rattle.bicycle_common.specs.Letters.{anticommuting_letters}
@@ -19,12 +20,10 @@ use Rattle.pauli_string.specs.Strings.{qubits, letter_at}
 use Rattle.pauli_string.proofs.Text.{length_text}
 use Rattle.native_measurement.specs.declared.NativeMeasurement.{NativeMeasurement}
 use Rattle.native_measurement.specs.declared.NativeNumber.{NativeNumber}
-use Rattle.native_measurement.specs.declared.ImplementationAnswer.TheVariants.{Refused as NoInstructions}
 use Rattle.native_measurement.specs.Natives.{natives, native_of}
 use Rattle.native_measurement.specs.Answers.{implementation}
 use Rattle.table.specs.Plans.{All, Supported}
-use Rattle.compile.specs.Expansions.{around, rotation_by, native_expansion, rotation_expansion, expansion_text, spaced}
-use Rattle.text.specs.Reads.{Read, good, bad}
+use Rattle.compile.specs.Expansions.{around, rotation_by, expansion, expansion_text, spaced}
 use Rattle.reader.specs.Plans.{Plan, strings_of, numbers, measured, read_plan}
 use Rattle.reader.specs.Sound.{Sound}
 use Rattle.reader.proofs.Sound.{read_sound}
@@ -35,18 +34,18 @@ use Rattle.listing.proofs.ShiftCount.{shifts_count}
 -- ---- one native
 
 -- its instructions, where there are any
-native_length : (t : Bool) (m : NativeMeasurement) → length (expansion_text (native_expansion (cond t (implementation m) (NoInstructions NativeRange)))) ≤ 27
+native_length : (t : Bool) (m : NativeMeasurement) → length (expansion_text (expansion (cond t (implementation m) (Err NativeRange)))) ≤ 27
 unfolding spaced
 native_length true m = omega arith
 native_length false m = omega arith
 
 -- one more before and one behind
-around_length : (l : Anticommuting) (t : Bool) (m : NativeMeasurement)
-    → length (expansion_text (rotation_expansion (around l (cond t (implementation m) (NoInstructions NativeRange))))) ≤ 47
+around_length : (l : Option (Pauli × Pauli)) (t : Bool) (m : NativeMeasurement)
+    → length (expansion_text (expansion (around l (cond t (implementation m) (Err NativeRange))))) ≤ 47
 unfolding spaced
-around_length NoLetters t m = omega arith
-around_length (Letters p0 p1) true m = omega arith
-around_length (Letters p0 p1) false m = omega arith
+around_length None t m = omega arith
+around_length (Some (p0, p1)) true m = omega arith
+around_length (Some (p0, p1)) false m = omega arith
 
 number_length : (n : NativeNumber) → n.0 < natives → length (decimal n.0) ≤ 3
 number_length n h = decimal_length n.0 2 (omega arith)
@@ -99,9 +98,9 @@ number_small QubitRange = omega arith
 refusal_length : (r : Refusal) → length (refusal_text r) ≤ 11
 refusal_length r = simp length-append (omega (arith, decimal_length (number_of r) 1 (omega (arith, number_small r))))
 
-text_length : (x : Read Plan) → ((p : Plan) → x ≡ good p → Sound p) → length (text_of x) ≤ 17496
-text_length (good p) h = plan_length p (h p refl)
-text_length (bad r) h = omega (arith, refusal_length r)
+text_length : (x : Result Plan Refusal) → ((p : Plan) → x ≡ Ok p → Sound p) → length (text_of x) ≤ 17496
+text_length (Ok p) h = plan_length p (h p refl)
+text_length (Err r) h = omega (arith, refusal_length r)
 
 pub output_length : (s : List ℕ) → length (output s) ≤ 17496
 unfolding output

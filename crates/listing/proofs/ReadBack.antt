@@ -1,5 +1,6 @@
 -- A listing's own `base=` and `rotation=` lines, put behind the matrices, are read back to the same plan: the listing is a text of whole lines,
 -- of which these are kept. Assumes nothing.
+use Rattle.std.specs.Prelude.{Ok}
 use mathlib.Core.List.{List, [], ◌∷◌, ◌++◌, map, reverse, flat_map, flatten, append_assoc}
 use mathlib.Core.Path.{◌≡◌, refl, sym, ap, ◌∙◌}
 use Prim.Native.Nat.{ℕ, ◌<◌}
@@ -20,9 +21,8 @@ use Rattle.pauli_string.specs.Strings.{qubits}
 use Rattle.pauli_string.specs.Text.{letters, text}
 use Rattle.native_measurement.specs.declared.NativeNumber.{NativeNumber}
 use Rattle.native_measurement.specs.Answers.{implementation_at}
-use Rattle.compile.specs.Expansions.{rotation_by, native_expansion, rotation_expansion, spaced, expansion_text}
+use Rattle.compile.specs.Expansions.{rotation_by, expansion, spaced, expansion_text}
 use Rattle.reader.specs.Lines.{newline, lines, line_at, begins, value_in}
-use Rattle.text.specs.Reads.{good}
 use Rattle.reader.specs.Plans.{Plan, strings_of, measured, most_rotations, matrix_line, plan_from, native_lines, read_lines, read_plan}
 use Rattle.reader.specs.Sound.{Sound}
 use Rattle.reader.proofs.Good.{matrix_shape}
@@ -81,7 +81,7 @@ expanding_whole is = whole_line (bytes_of "expand=") (expansion_text is) (omega 
 module _ (f : ℕ → ℕ) where
   rotation_pieces : List NativeNumber → List (List ℕ)
   rotation_pieces [] = []
-  rotation_pieces (n ∷ ns) = stating "rotation=" n ∷ expanding (rotation_expansion (rotation_by qubits n.0 (f n.0))) ∷ rotation_pieces ns
+  rotation_pieces (n ∷ ns) = stating "rotation=" n ∷ expanding (expansion (rotation_by qubits n.0 (f n.0))) ∷ rotation_pieces ns
 
   rotations_joined : (ns : List NativeNumber) → rotations_text f ns ≡ flatten (rotation_pieces ns)
   unfolding rotations_text rotation_text rotation_pieces expanding flatten
@@ -111,7 +111,7 @@ module _ (p : Plan) where
       ∷ line_of "count=" (decimal (length p.rotations))
       ∷ line_of "shifts=" (decimal (shifts p.base p.rotations))
       ∷ stating "base=" p.base
-      ∷ expanding (native_expansion (implementation_at p.base.0))
+      ∷ expanding (expansion (implementation_at p.base.0))
       ∷ rotation_pieces (strings_of p.pair) p.rotations
 
   plan_joined : plan_text p ≡ flatten plan_pieces
@@ -120,7 +120,7 @@ module _ (p : Plan) where
       rw (rotations_joined (strings_of p.pair) p.rotations)
       (right_nested (line_of "measures=" (text qubits (measured p))) (line_of "count=" (decimal (length p.rotations)))
       (line_of "shifts=" (decimal (shifts p.base p.rotations))) (stating "base=" p.base)
-      (expanding (native_expansion (implementation_at p.base.0))) (flatten (rotation_pieces (strings_of p.pair) p.rotations)))
+      (expanding (expansion (implementation_at p.base.0))) (flatten (rotation_pieces (strings_of p.pair) p.rotations)))
 
   plan_whole : Wholes plan_pieces
   unfolding plan_pieces
@@ -154,7 +154,7 @@ module _ (p : Plan) where
 -- ---- read back
 
 -- a good matrix line is its name, digits and its end
-matrix_whole : (name l m : List ℕ) → Plain name → matrix_line name l ≡ good m → Whole l
+matrix_whole : (name l m : List ℕ) → Plain name → matrix_line name l ≡ Ok m → Whole l
 matrix_whole name l m h e =
     let s = matrix_shape name l m e in
     (name ++ value_in name l, plain_append name (value_in name l) h (digits_plain (value_in name l) s.1), line_parts name l s.0)
@@ -164,9 +164,9 @@ own_whole [] = tt
 own_whole (n ∷ ns) = (stating_whole "rotation=" n (omega arith), own_whole ns)
 
 -- the plan's own lines behind two lines with its matrices
-module _ (p : Plan) (x y : List ℕ) (ex : matrix_line (bytes_of "mx=") x ≡ good p.pair.mx) (ey : matrix_line (bytes_of "my=") y ≡ good p.pair.my)
+module _ (p : Plan) (x y : List ℕ) (ex : matrix_line (bytes_of "mx=") x ≡ Ok p.pair.mx) (ey : matrix_line (bytes_of "my=") y ≡ Ok p.pair.my)
     (s : Sound p) where
-  again_lines : read_lines (x ∷ y ∷ own_lines p) ≡ good p
+  again_lines : read_lines (x ∷ y ∷ own_lines p) ≡ Ok p
   unfolding read_lines native_lines plan_from own_lines
   again_lines =
       rw (
@@ -177,7 +177,7 @@ module _ (p : Plan) (x y : List ℕ) (ex : matrix_line (bytes_of "mx=") x ≡ go
         ne_eqb (measured p) 0 s.some,
       )
 
-  again : read_plan (x ++ y ++ flatten (own_lines p)) ≡ good p
+  again : read_plan (x ++ y ++ flatten (own_lines p)) ≡ Ok p
   unfolding read_plan flatten own_lines
   again =
       ap read_lines
@@ -191,14 +191,14 @@ module _ (p : Plan) (x y : List ℕ) (ex : matrix_line (bytes_of "mx=") x ≡ go
       ))
       ∙ again_lines
 
-pub read_back : (s : List ℕ) (p : Plan) → read_plan s ≡ good p → read_plan (matrices s ++ stated (output s)) ≡ good p
+pub read_back : (s : List ℕ) (p : Plan) → read_plan s ≡ Ok p → read_plan (matrices s ++ stated (output s)) ≡ Ok p
 read_back s p e =
     let h = read_parts s p e in
     let o : output s ≡ plan_text p = unfold output in rw e in
     rw (o, plan_stated p) (again p (line_at 0 (lines s)) (line_at 1 (lines s)) h.mx h.my (read_sound s p e))
 
 -- and listed as before
-pub list_back : (s : List ℕ) (p : Plan) → read_plan s ≡ good p → output (matrices s ++ stated (output s)) ≡ output s
+pub list_back : (s : List ℕ) (p : Plan) → read_plan s ≡ Ok p → output (matrices s ++ stated (output s)) ≡ output s
 list_back s p e =
     let o : (t : List ℕ) → output t ≡ text_of (read_plan t) = λ t. unfold output in refl in
     o (matrices s ++ stated (output s)) ∙ ap text_of (read_back s p e ∙ sym e) ∙ sym (o s)

@@ -1,4 +1,5 @@
 -- The listing of a plan, line by line, and the whole output for any input. Assumes nothing.
+use Rattle.std.specs.Prelude.{Result, Ok, Err}
 use Rattle.std.specs.Prelude.{List, [], ◌∷◌, ◌++◌, ℕ, ◌+◌, ◌*◌, length}
 use Prim.Native.String.{String}
 use Rattle.bicycle_common.specs.declared.BicycleISA.{BicycleISA}
@@ -12,9 +13,8 @@ use Rattle.pauli_string.specs.Text.{text}
 use Rattle.native_measurement.specs.declared.NativeNumber.{NativeNumber}
 use Rattle.native_measurement.specs.Natives.{native_of}
 use Rattle.native_measurement.specs.Answers.{implementation, implementation_at}
-use Rattle.compile.specs.Expansions.{rotation_by, native_expansion, rotation_expansion, expansion_text}
+use Rattle.compile.specs.Expansions.{rotation_by, expansion, expansion_text}
 use Rattle.reader.specs.Lines.{newline}
-use Rattle.text.specs.Reads.{Read, good, bad}
 use Rattle.reader.specs.Plans.{Plan, strings_of, measured, read_plan}
 
 -- ---- lines
@@ -28,11 +28,11 @@ abbrev pub native_text : String → NativeNumber → List BicycleISA → List �
 native_text name n is = line_of name (decimal n.0) ++ line_of "expand=" (expansion_text is)
 
 unfoldable pub base_text : NativeNumber → List ℕ
-base_text n = native_text "base=" n (native_expansion (implementation_at n.0))
+base_text n = native_text "base=" n (expansion (implementation_at n.0))
 
 -- f gives the natives' strings
 unfoldable pub rotation_text : (ℕ → ℕ) → NativeNumber → List ℕ
-rotation_text f n = native_text "rotation=" n (rotation_expansion (rotation_by qubits n.0 (f n.0)))
+rotation_text f n = native_text "rotation=" n (expansion (rotation_by qubits n.0 (f n.0)))
 
 unfoldable pub rotations_text : (ℕ → ℕ) → List NativeNumber → List ℕ
 rotations_text f [] = []
@@ -48,7 +48,7 @@ shifts_in (Measure b ∷ is) = shifts_in is
 
 -- those of a native
 abbrev pub shifts_of : NativeNumber → ℕ
-shifts_of n = shifts_in (native_expansion (implementation (native_of n.0)))
+shifts_of n = shifts_in (expansion (implementation (native_of n.0)))
 
 -- each rotation runs twice
 unfoldable pub rotation_shifts : List NativeNumber → ℕ
@@ -77,9 +77,9 @@ plan_text p = listing (strings_of p.pair) (measured p) p.base p.rotations
 abbrev pub refusal_text : Refusal → List ℕ
 refusal_text r = line_of "refused=" (decimal (number_of r))
 
-abbrev pub text_of : Read Plan → List ℕ
-text_of (good p) = plan_text p
-text_of (bad r) = refusal_text r
+abbrev pub text_of : Result Plan Refusal → List ℕ
+text_of (Ok p) = plan_text p
+text_of (Err r) = refusal_text r
 
 -- all that `plan` prints for the input s
 unfoldable pub output : List ℕ → List ℕ

@@ -1,98 +1,57 @@
 // The listing of a plan: all that the program `plan` prints for any input.
 //
-// Added: the original prints no plans. The form is document 01's, under "Plan listing". Text is put at a place of the
-// buffer as far as there is room, and the next place is answered, so that the same calls on an empty buffer tell the
-// length needed.
+// Added: the original prints no plans. The form is document 01's, under "Plan listing".
 #![tactic(auto)]
 
-ghost use Rattle.std.specs.Prelude.{◌≡◌, [], ◌∷◌, ◌++◌, ◌+◌, ◌*◌, ◌<◌, ◌≤◌, ◌^◌, length, take};
-ghost use Rattle.bicycle_common.specs.Bytes.{bytes_of};
+ghost use Rattle.std.specs.Prelude.{◌≡◌, ℕ, [], ◌∷◌, ◌++◌, ◌+◌, ◌*◌, ◌<◌, ◌≤◌, ◌^◌, length, get_or, Ok};
 ghost use Rattle.text.specs.Puts.{Put};
-ghost use Rattle.text.specs.Reads.{good};
 ghost use Rattle.text.specs.Fronts.{Written};
 ghost use Rattle.text.specs.Decimals.{decimal};
 ghost use Rattle.pauli_string.specs.Strings.{qubits};
-ghost use Rattle.pauli_string.specs.Text.{text};
 ghost use Rattle.native_measurement.specs.Natives.{natives};
-ghost use Rattle.natives.specs.Arrays.{at};
+ghost use Rattle.natives.specs.Cells.{shown};
+ghost use Rattle.compile.specs.Expansions.{expansion, expansion_text};
 ghost use Rattle.reader.specs.Lines.{newline};
-ghost use Rattle.listing.specs.Listings.{line_of, base_text, rotation_text, rotations_text, head_text, output};
-ghost use Rattle.listing.specs.Answers.{Small, Printable, listing_of, answer_text};
+ghost use Rattle.reader.specs.Answers.{native0};
+ghost use Rattle.listing.specs.Listings.{line_of, rotation_text, rotations_text, head_text, refusal_text, output};
+ghost use Rattle.listing.specs.Answers.{Printable, listing_by};
 
-use bicycle_common::{Outcome, Refusal};
+use bicycle_common::{BicycleISA, Refusal};
+use display::Expansion;
+use measurement::Pair;
 use native_measurement::NativeNumber;
+use natives::Cells;
 use pauli_string::PauliString;
-use reader::PlanAnswer;
-use text::WriteAnswer;
+use reader::StatedPlan;
+use text::{Out, Text};
 
 // ---- lines
 
-fn put_number_line(out: &mut [u8], place: usize, name: &[u8], n: u16) -> usize
-    requires { (n < 10000) × (length name.now ≤ 9) × (place + 14 < 2 ^ 32) }
-    ensures { Put out.old place (name.now ++ decimal n ++ newline ∷ []) result out.new × (result ≤ place + 14) }
+// A name, a value and the line's end.
+fn put_line<T: Text>(out: &mut Out, name: &[u8], value: &T)
+    requires { out.old.at + length (name.now ++ T.text value.now ++ newline ∷ []) < 2 ^ 64 }
+    ensures { Put out.old (name.now ++ T.text value.now ++ newline ∷ []) out.new }
 {
-    let value = text::put_bytes_unchecked(out, place, name);
-    let end = text::put_decimal_unchecked(out, value, n);
-    text::put_byte_unchecked(out, end, b'\n')
+    out.put_bytes_unchecked(name);
+    value.put_unchecked(out);
+    out.put_byte_unchecked(b'\n');
 }
 
-fn put_measures(out: &mut [u8], place: usize, measures: PauliString) -> usize
-    requires { (measures.0 < 4 ^ qubits) × (place + 22 < 2 ^ 32) }
-    ensures { Put out.old place (line_of "measures=" (text qubits measures.0)) result out.new × (result ≤ place + 22) }
+// A native's line, and the line of what it expands to, which is nothing of a refusal.
+fn put_native<const N: usize>(
+    out: &mut Out,
+    name: &[u8],
+    n: NativeNumber,
+    instructions: Result<[BicycleISA; N], Refusal>,
+)
+    requires { out.old.at + length ((name.now ++ decimal n.0 ++ newline ∷ []) ++ line_of "expand=" (expansion_text (expansion instructions))) < 2 ^ 64 }
+    ensures { Put out.old ((name.now ++ decimal n.0 ++ newline ∷ []) ++ line_of "expand=" (expansion_text (expansion instructions.entry))) out.new }
 {
-    let t = measures.display();
-    let bytes = t.bytes;
-    let value = text::put_bytes_unchecked(out, place, b"measures=");
-    let end = text::put_bytes_unchecked(out, value, &bytes);
-    text::put_byte_unchecked(out, end, b'\n')
-}
-
-// A native's line, and the beginning of the line with its expansion.
-fn put_native(out: &mut [u8], place: usize, name: &[u8], n: NativeNumber) -> usize
-    requires { (n.0 < natives) × (length name.now ≤ 9) × (place + 21 < 2 ^ 32) }
-    ensures { Put out.old place ((name.now ++ decimal n.0 ++ newline ∷ []) ++ bytes_of "expand=") result out.new × (result ≤ place + 21) }
-{
-    let next = put_number_line(out, place, name, n.0);
-    text::put_bytes_unchecked(out, next, b"expand=")
-}
-
-fn put_base(out: &mut [u8], place: usize, n: NativeNumber) -> usize
-    requires { (n.0 < natives) × (place + 51 < 2 ^ 32) }
-    ensures { Put out.old place (base_text n) result out.new × (result ≤ place + 51) }
-{
-    let value = put_native(out, place, b"base=", n);
-    let end = display::put_native_unchecked(out, value, native_measurement::implementation(n));
-    text::put_byte_unchecked(out, end, b'\n')
-}
-
-fn put_rotation(out: &mut [u8], place: usize, n: NativeNumber, strings: &[u32]) -> usize
-    requires { (n.0 < natives) × (length strings.now ≡ natives) × (place + 71 < 2 ^ 32) }
-    ensures { Put out.old place (rotation_text (at strings.now) n) result out.new × (result ≤ place + 71) }
-{
-    let p = PauliString(strings[n.0 as usize]);
-    let value = put_native(out, place, b"rotation=", n);
-    let end = display::put_rotation_unchecked(out, value, compile::rotation_by_unchecked(n, p));
-    text::put_byte_unchecked(out, end, b'\n')
-}
-
-fn put_rotations(
-    out: &mut [u8],
-    place: usize,
-    rotations: [NativeNumber; 256],
-    count: usize,
-    strings: &[u32],
-) -> usize
-    requires { Small rotations count × (length strings.now ≡ natives) × (place ≤ 1000) }
-    ensures { Put out.old place (rotations_text (at strings.now) (take count rotations)) result out.new }
-{
-    let mut to = place;
-    let mut i: usize = 0;
-    while i < count {
-        let n = rotations[i];
-        to = put_rotation(out, to, n, strings);
-        i += 1;
+    put_line(out, name, &n.0);
+    match instructions {
+        Ok(all) => put_line(out, b"expand=", &Expansion(&all)),
+        Err(_) => put_line(out, b"expand=", &Expansion(&[])),
     }
-    to
 }
 
 // ---- the listing
@@ -100,66 +59,81 @@ fn put_rotations(
 // Each native has two automorphism instructions; each rotation runs twice and the base once.
 fn shifts(count: u16) -> u16
     requires { count ≤ 256 }
-    ensures { (result ≡ 2 * (2 * count + 1)) × (result < 10000) }
+    ensures { result ≡ 2 * (2 * count + 1) }
 {
     4 * count + 2
 }
 
-// What stands before the rotations.
-fn put_head(out: &mut [u8], measures: PauliString, count: u16, base: NativeNumber) -> usize
-    requires { (measures.0 < 4 ^ qubits) × (count ≤ 256) × (base.0 < natives) }
-    ensures { Put out.old 0 (head_text measures.0 count (2 * (2 * count + 1)) base) result out.new × (result ≤ 1000) }
+// What stands before the rotations, of the fields that `head_text` takes.
+#[tactic(auto, unfolding(crate::specs::Listings::base_text))]
+fn put_head(out: &mut Out, measures: PauliString, count: u16, base: NativeNumber)
+    requires string { (measures.0 < 4 ^ qubits) × (count ≤ 256) }
+    requires room { out.old.at + length (head_text measures.0 count (2 * (2 * count + 1)) base) < 2 ^ 64 }
+    ensures { Put out.old (head_text measures.0 count (2 * (2 * count + 1)) base) out.new }
 {
-    let first = put_measures(out, 0, measures);
-    let second = put_number_line(out, first, b"count=", count);
-    let third = put_number_line(out, second, b"shifts=", shifts(count));
-    put_base(out, third, base)
+    put_line(out, b"measures=", &measures.display().unwrap());
+    put_line(out, b"count=", &count);
+    put_line(out, b"shifts=", &shifts(count));
+    put_native(
+        out,
+        b"base=",
+        base,
+        native_measurement::implementation(base),
+    );
 }
 
-// The listing of a plan.
-fn put_plan(out: &mut [u8], plan: PlanAnswer) -> usize
-    requires { Printable plan }
-    ensures { Put out.old 0 (listing_of plan) result out.new }
-{
-    let pair = plan.pair;
-    let mx = pair.mx;
-    let my = pair.my;
-    let mut strings = [0u32; 540];
-    natives::strings_unchecked(&mx, &my, &mut strings);
-    let rotations = plan.rotations;
-    let next = put_head(out, plan.measures, plan.count as u16, plan.base);
-    put_rotations(out, next, rotations, plan.count, &strings)
+// A plan, with the cells that hold its natives' strings.
+#[derive(Clone, Copy)]
+struct Listing<'a> {
+    plan: &'a StatedPlan,
+    cells: &'a Cells,
+    ghost printable: { Printable plan.now },
 }
 
-// The listing, or the number of the refusal.
-fn put_answer(out: &mut [u8], plan: PlanAnswer) -> usize
-    requires { Printable plan }
-    ensures { Put out.old 0 (answer_text plan) result out.new }
-{
-    let outcome = plan.outcome;
-    match outcome {
-        Outcome::Refused(r) => put_number_line(out, 0, b"refused=", r.number() as u16),
-        Outcome::Done => put_plan(out, plan),
+impl Text for Listing<'_> {
+    ghost text = { λ l. listing_by (shown l.cells.now.cells) l.plan.now };
+
+    #[tactic(auto, unfolding(crate::specs::Listings::rotation_text))]
+    fn put_unchecked(&self, out: &mut Out) {
+        let plan = self.plan;
+        // `as`: no `From` narrows, and that nothing is lost is proved
+        put_head(out, plan.measures, plan.count as u16, plan.base);
+        for n in &plan.rotations[..plan.count] {
+            let p = reader::string_of_unchecked(*n, self.cells);
+            put_native(out, b"rotation=", *n, compile::rotation_by_unchecked(*n, p));
+        }
     }
 }
 
-// The same, or 9 and nothing written where there is no room for all of it.
-fn write(out: &mut [u8], plan: PlanAnswer) -> WriteAnswer
-    requires { Printable plan }
-    ensures { Written (good (answer_text plan)) out.old result out.new }
-{
-    let needed = put_answer(&mut out[..0], plan);
-    if out.len() < needed {
-        return WriteAnswer::Refused(Refusal::Room(needed));
+// The number of a refusal. No length behind it, which the programs tell of 9: a listing has none.
+#[derive(Clone, Copy)]
+struct Refused(Refusal);
+
+impl Text for Refused {
+    ghost text = { λ r. refusal_text r.0 };
+
+    fn put_unchecked(&self, out: &mut Out) {
+        put_line(out, b"refused=", &u16::from(self.0.number()));
     }
-    WriteAnswer::Is(put_answer(out, plan))
 }
 
 // Reads the plan that the input states and writes its listing, or the number of its refusal, to the front of the buffer:
 // 9 where the buffer is shorter than the text.
-pub fn list(input: &[u8], out: &mut [u8]) -> WriteAnswer
-    ensures { Written (good (output input.now)) out.old result out.new }
+pub fn list(input: &[u8], out: &mut [u8]) -> Result<usize, Refusal>
+    ensures { Written (Ok (output input.now)) out.old result out.new }
 {
-    let plan = reader::read(input);
-    write(out, plan)
+    match reader::read(input) {
+        Ok(plan) => {
+            let cells = natives::cells_unchecked(Pair {
+                mx: &plan.pair.mx,
+                my: &plan.pair.my,
+            });
+            let listing = Listing {
+                plan: &plan,
+                cells: &cells,
+            };
+            text::write_unchecked(&listing, out)
+        }
+        Err(r) => text::write_unchecked(&Refused(r), out),
+    }
 }

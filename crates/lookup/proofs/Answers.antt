@@ -1,27 +1,19 @@
 -- Which answer the definitions of the lookups give, test by test. Assumes nothing.
-use mathlib.Core.Path.{◌≡◌, refl, sym, ap, ap₂, subst, ◌∙◌}
+use Rattle.std.specs.Prelude.{Result, Ok, Err}
+use mathlib.Core.Path.{◌≡◌, ap, ◌∙◌}
 use mathlib.Core.Bool.{Bool, true, false, cond}
 use mathlib.Core.List.{List}
 use Prim.Native.Nat.{ℕ, ◌*◌, ◌≤◌, ◌<◌}
-use lib.Seq.{sets}
 use borrow.Author.Tests.{lt-ltb, le-ltb, eq-eqb, ne_eqb}
 use Rattle.bicycle_common.specs.declared.Refusal.{Refusal}
 use Rattle.bicycle_common.specs.declared.Refusal.TheVariants.{StringRange, Identity, PivotSet, NoEntry, BadEntry, Room}
-use Rattle.bicycle_common.specs.declared.Outcome.{Outcome}
-use Rattle.bicycle_common.specs.declared.Outcome.TheVariants.{Done, Refused as NotDone}
 use Rattle.pauli_string.specs.Strings.{is_string, has_pivot}
 use Rattle.measurement.specs.Measures.{pair_string}
 use Rattle.table.specs.Bytes.{entry}
-use Rattle.table.specs.Entries.{depth, named}
+use Rattle.table.specs.Entries.{depth}
 use Rattle.table.specs.Answers.{given}
-use Rattle.lookup.specs.declared.LookupAnswer.TheVariants.{Refused}
-use Rattle.lookup.specs.Walks.{bottom, rotations, missing, judged, winner}
-use Rattle.lookup.specs.Answers.{two_bytes, Lookup, refusing, Leaves, plan_by, planned, found, where_passed, allowed, sought, looked_up}
-
--- a refusal leaves the buffer as it was
-pub refuses : (o : Lookup) (r : Refusal) (l : List ℕ) → o ≡ refusing r → Leaves o l (Refused r) l
-unfolding two_bytes
-refuses o r l z = subst (λ (w : Lookup). Leaves w l (Refused r) l) (sym z) (record { answer = refl; buffer = refl })
+use Rattle.lookup.specs.Walks.{missing, judged, winner}
+use Rattle.lookup.specs.Answers.{Lookup, refusing, planned, found, where_passed, allowed, sought, looked_up}
 
 module _ (q : ℕ) (f e : ℕ → ℕ) (p room : ℕ) where
   pub found_short : room < 2 * depth (e p) → found q f e p room ≡ refusing (Room (2 * depth (e p)))
@@ -43,14 +35,6 @@ module _ (q : ℕ) (f e : ℕ → ℕ) (any : Bool) (p room : ℕ) where
     pub sought_found : judged any q f e p ≡ true → sought q f e any p room ≡ found q f e (winner any q e p) room
     sought_found z = rw (some, z)
 
--- what is answered of string b, number n and d rotations is the plan, where these are the walk's
-pub plans : (q : ℕ) (f e : ℕ → ℕ) (p b n d : ℕ) (l m : List ℕ) → b ≡ bottom q f e p → n ≡ named (e b) → d ≡ depth (e p)
-    → m ≡ sets l 0 (two_bytes (rotations q f e p)) → Leaves (planned q f e p) l (plan_by b n d p (rotations q f e p)).answer m
-plans q f e p b n d l m hb hn hd hm = record {
-  answer = ap₂ (λ (n d : ℕ). (plan_by b n d p (rotations q f e p)).answer) hn hd ∙ ap (λ (b : ℕ). (plan_by b (named (e b)) (depth (e p)) p (rotations q f e p)).answer) hb;
-  buffer = hm;
-}
-
 -- ---- the calls
 
 module _ (any : Bool) (q s : ℕ) (t mx my : List ℕ) (p room : ℕ) where
@@ -62,37 +46,37 @@ module _ (any : Bool) (q s : ℕ) (t mx my : List ℕ) (p room : ℕ) where
   abbrev asked : Lookup
   asked = cond (is_string q p) (where_passed (allowed any q p) decided) (refusing StringRange)
 
-  pub not_given : (r : Refusal) → given q s t mx my ≡ NotDone r → looked_up any q s t mx my p room ≡ refusing r
+  pub not_given : (r : Refusal) → given q s t mx my ≡ Err r → looked_up any q s t mx my p room ≡ refusing r
   unfolding looked_up
-  not_given r z = ap (λ (o : Outcome). where_passed o asked) z
+  not_given r z = ap (λ (o : Result (Unit {0}) Refusal). where_passed o asked) z
 
-  module _ (g : given q s t mx my ≡ Done) where
+  module _ (g : given q s t mx my ≡ Ok tt) where
     pub not_string : is_string q p ≡ false → looked_up any q s t mx my p room ≡ refusing StringRange
     unfolding looked_up
-    not_string z = ap (λ (o : Outcome). where_passed o asked) g ∙ rw z
+    not_string z = ap (λ (o : Result (Unit {0}) Refusal). where_passed o asked) g ∙ rw z
 
     module _ (i : is_string q p ≡ true) where
       to_allowed : looked_up any q s t mx my p room ≡ where_passed (allowed any q p) decided
       unfolding looked_up
-      to_allowed = ap (λ (o : Outcome). where_passed o asked) g ∙ rw i
+      to_allowed = ap (λ (o : Result (Unit {0}) Refusal). where_passed o asked) g ∙ rw i
 
-      pub not_allowed : (r : Refusal) → allowed any q p ≡ NotDone r → looked_up any q s t mx my p room ≡ refusing r
-      not_allowed r z = to_allowed ∙ ap (λ (o : Outcome). where_passed o decided) z
+      pub not_allowed : (r : Refusal) → allowed any q p ≡ Err r → looked_up any q s t mx my p room ≡ refusing r
+      not_allowed r z = to_allowed ∙ ap (λ (o : Result (Unit {0}) Refusal). where_passed o decided) z
 
-      pub is_sought : allowed any q p ≡ Done → looked_up any q s t mx my p room ≡ decided
-      is_sought z = to_allowed ∙ ap (λ (o : Outcome). where_passed o decided) z
+      pub is_sought : allowed any q p ≡ Ok tt → looked_up any q s t mx my p room ≡ decided
+      is_sought z = to_allowed ∙ ap (λ (o : Result (Unit {0}) Refusal). where_passed o decided) z
 
 -- ---- which strings are allowed
 
 module _ (q p : ℕ) where
-  pub exact_not : p ≡ 0 → allowed false q p ≡ NotDone Identity
+  pub exact_not : p ≡ 0 → allowed false q p ≡ Err Identity
   exact_not z = rw (eq-eqb p 0 z)
 
-  pub exact_allowed : (p ≡ 0 → ⊥) → allowed false q p ≡ Done
+  pub exact_allowed : (p ≡ 0 → ⊥) → allowed false q p ≡ Ok tt
   exact_allowed h = rw (ne_eqb p 0 h)
 
-  pub free_not : has_pivot q p ≡ true → allowed true q p ≡ NotDone PivotSet
+  pub free_not : has_pivot q p ≡ true → allowed true q p ≡ Err PivotSet
   free_not z = rw z
 
-  pub free_allowed : has_pivot q p ≡ false → allowed true q p ≡ Done
+  pub free_allowed : has_pivot q p ≡ false → allowed true q p ≡ Ok tt
   free_allowed z = rw z

@@ -1,4 +1,5 @@
 -- What holds of every refusal, and of the plan where nothing is refused, holds of what a lookup answers and writes. Assumes nothing.
+use Rattle.std.specs.Prelude.{Result, Ok, Err}
 use mathlib.Core.Path.{◌≡◌, refl}
 use mathlib.Core.Bool.{Bool, true, false, cond}
 use mathlib.Core.List.{List}
@@ -7,8 +8,6 @@ use lib.Dec.{ltb}
 use borrow.Author.Tests.{ltb-false}
 use Rattle.bicycle_common.specs.declared.Refusal.{Refusal}
 use Rattle.bicycle_common.specs.declared.Refusal.TheVariants.{StringRange, NoEntry, BadEntry, Room}
-use Rattle.bicycle_common.specs.declared.Outcome.{Outcome}
-use Rattle.bicycle_common.specs.declared.Outcome.TheVariants.{Done, Refused as NotDone}
 use Rattle.pauli_string.specs.Strings.{is_string}
 use Rattle.measurement.specs.Measures.{pair_string}
 use Rattle.table.specs.Bytes.{entry}
@@ -37,9 +36,9 @@ module _ (P : Lookup → Type 0) where
         (λ l. h (winner_good q f e any p some g) (ltb-false room (2 * depth (e w)) l)))
         (λ z. no BadEntry))
 
-    passed_case : (g : Outcome) (o : Lookup) → P o → P (where_passed g o)
-    passed_case Done o h = h
-    passed_case (NotDone r) o h = no r
+    passed_case : (g : Result (Unit {0}) Refusal) (o : Lookup) → P o → P (where_passed g o)
+    passed_case (Ok _) o h = h
+    passed_case (Err r) o h = no r
 
     pub looked_up_case : (any : Bool) (q s : ℕ) (t mx my : List ℕ) (p room : ℕ)
         → P (sought q (pair_string s mx my) (entry t) any p room) → P (looked_up any q s t mx my p room)

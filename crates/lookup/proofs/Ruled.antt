@@ -1,5 +1,6 @@
 -- On a table that meets the rules every walk from an entry is good, so that the lookups of a string with an entry are not refused, but for
 -- room. Assumes nothing.
+use Rattle.std.specs.Prelude.{Ok}
 use mathlib.Core.Path.{◌≡◌, refl, sym, ap, subst, ◌∙◌}
 use mathlib.Core.Bool.{Bool, true, false, ◌&&◌, and-eq-true_iff}
 use mathlib.Core.List.{List, []}
@@ -10,7 +11,6 @@ use lib.Dec.{eqb}
 use borrow.Author.Tests.{eq-eqb, ne_eqb, eqb-true, eqb-false}
 use Rattle.bicycle_common.specs.declared.Pauli.{Pauli}
 use Rattle.bicycle_common.specs.declared.Pauli.TheVariants.{I, X, Z, Y}
-use Rattle.bicycle_common.specs.declared.Outcome.TheVariants.{Done}
 use Rattle.bicycle_common.specs.Ranges.{list_from, listed}
 use Rattle.pauli_string.specs.Strings.{blank, has_pivot, letter_at}
 use Rattle.pauli_string.proofs.Pivot.{rotate_string, rotate_nonzero, blank_pivot, blank_le}
@@ -98,12 +98,12 @@ module _ (q p : ℕ) where
   ask_string true a = a.0
   ask_string false a = a.below
 
-  ask_allowed : (any : Bool) → Askable any q p → allowed any q p ≡ Done
+  ask_allowed : (any : Bool) → Askable any q p → allowed any q p ≡ Ok tt
   ask_allowed true a = free_allowed q p a.1
   ask_allowed false a = exact_allowed q p a.some
 
   -- a lookup that may be asked is decided by the table
-  pub ask_sought : (any : Bool) (s : ℕ) (t mx my : List ℕ) (room : ℕ) → Askable any q p → given q s t mx my ≡ Done
+  pub ask_sought : (any : Bool) (s : ℕ) (t mx my : List ℕ) (room : ℕ) → Askable any q p → given q s t mx my ≡ Ok tt
       → looked_up any q s t mx my p room ≡ sought q (pair_string s mx my) (entry t) any p room
   ask_sought any s t mx my room a g = is_sought any q s t mx my p room g (is_string_law q p (ask_string any a)) (ask_allowed any a)
 

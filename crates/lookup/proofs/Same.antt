@@ -1,12 +1,12 @@
 -- A lookup reads only the strings of the natives: two functions that agree on these answer the same. A walk that is not good is left at its
 -- first bad place, and up to there both see the same. Assumes nothing.
 use mathlib.Core.Path.{◌≡◌, refl, sym, ap, ap₂, ◌∙◌}
-use mathlib.Core.Bool.{Bool, true, false, cond, ◌&&◌, and-false}
+use mathlib.Core.Bool.{Bool, true, false, cond, ◌&&◌, and-eq-true_iff, and-false}
 use mathlib.Core.List.{List}
 use Prim.Native.Nat.{ℕ, zero, suc, ◌+◌, ◌-◌, ◌*◌, ◌≤◌, ◌<◌}
 use native.Mathlib.Omega.{arith}
-use native.Mathlib.Decide.{ℕ_discrete, dec_lt}
 use lib.Dec.{eqb, ltb}
+use borrow.Author.Tests.{ltb-true}
 use Rattle.bicycle_common.specs.declared.Pauli.TheVariants.{X, Z, Y}
 use Rattle.bicycle_common.specs.Ranges.{all_below}
 use Rattle.bicycle_common.specs.declared.Refusal.TheVariants.{NoEntry, BadEntry, Room}
@@ -14,10 +14,10 @@ use Rattle.bicycle_common.proofs.Ranges.{length_from, listed_at, listed_all}
 use Rattle.pauli_string.specs.Strings.{has_pivot, rotate}
 use Rattle.native_measurement.specs.Natives.{natives}
 use Rattle.natives.proofs.Kept.{kept_same}
-use Rattle.table.specs.Entries.{depth, field, valid, named}
+use Rattle.table.specs.Entries.{depth, field, valid, valid_by, named}
 use Rattle.lookup.specs.Walks.{stands, next, down, good, rotation_at, rotations, sound, candidate, missing, judged, winner}
 use Rattle.lookup.specs.Answers.{Lookup, refusing, plan_by, found, sought}
-use Rattle.lookup.proofs.Walks.{stands_valid, valid_none, valid_over, valid_in, At, all_hold, good_at, winner_good}
+use Rattle.lookup.proofs.Walks.{stands_valid, At, all_hold, good_at, winner_good}
 
 -- two tests that agree at each number below which the first holds everywhere
 all_led : (n : ℕ) (s t : ℕ → Bool) → ((k : ℕ) → k < n → ((j : ℕ) → j < k → s j ≡ true) → s k ≡ t k) → all_below n s ≡ all_below n t
@@ -32,20 +32,14 @@ all_led (suc n) s t h = go (all_below n s) refl (all_led n s t (λ k l a. h k (o
 
 module _ (q : ℕ) (f g : ℕ → ℕ) (h : (n : ℕ) → n < natives → f n ≡ g n) where
   valid_same : (v x : ℕ) → valid q f v x ≡ valid q g v x
-  valid_same v x = elim (ℕ_discrete (field v) 0) [
-    | yes z ↦ valid_none q f v x z ∙ sym (valid_none q g v x z)
-    | no some ↦ elim (dec_lt natives (field v)) [
-      | yes l ↦ valid_over q f v x l ∙ sym (valid_over q g v x l)
-      | no high ↦ named_same some (omega arith)
-    ]
-  ]
+  valid_same v x = go (ltb 0 (field v) && ltb (field v) (natives + 1)) refl
     where
-      named_same : (field v ≡ 0 → ⊥) → field v ≤ natives → valid q f v x ≡ valid q g v x
-      named_same some high =
-          let l : named v < natives = omega arith in
-          valid_in q f v x some high
-          ∙ ap₂ (λ (k : Bool) (y : ℕ). k && cond (eqb (depth v) 0) (eqb y x) (has_pivot q y)) (kept_same f g h (named v) l) (h (named v) l)
-          ∙ sym (valid_in q g v x some high)
+      go : (b : Bool) → (ltb 0 (field v) && ltb (field v) (natives + 1)) ≡ b → cond b (valid_by q f v x (named v)) false ≡ cond b (valid_by q g v x (named v)) false
+      go false z = refl
+      go true z =
+          let r = (and-eq-true_iff (ltb 0 (field v)) (ltb (field v) (natives + 1))).0 z in
+          let l : named v < natives = omega (arith, ltb-true 0 (field v) r.0, ltb-true (field v) (natives + 1) r.1) in
+          ap₂ (λ (k : Bool) (y : ℕ). k && cond (eqb (depth v) 0) (eqb y x) (has_pivot q y)) (kept_same f g h (named v) l) (h (named v) l)
 
   module _ (e : ℕ → ℕ) (p : ℕ) where
     -- as far as every place stands, both walks are the same

@@ -1,8 +1,7 @@
--- Laws of the walk: its places one by one, that it stays among the strings, and that a good walk has a valid entry of the right depth at every
--- place. Assumes nothing.
-use mathlib.Core.Path.{◌≡◌, refl, sym, ap, ap₂, subst, ◌∙◌}
+-- Laws of the walk: its places one by one, and that a good walk has a valid entry of the right depth at every place. Assumes nothing.
+use mathlib.Core.Path.{◌≡◌, refl, sym, ap, subst, ◌∙◌}
 use mathlib.Core.Bool.{Bool, true, false, cond, ◌&&◌, and-eq-true_iff, and-false, true≢false}
-use Prim.Native.Nat.{ℕ, zero, suc, ◌+◌, ◌-◌, ◌^◌, ◌≤◌, ◌<◌}
+use Prim.Native.Nat.{ℕ, ◌+◌, ◌-◌, ◌^◌, ◌≤◌, ◌<◌}
 use native.Mathlib.Numerals.{add-one}
 use native.Mathlib.Omega.{arith}
 use native.Mathlib.Decide.{ℕ_discrete, dec_lt}
@@ -15,7 +14,6 @@ use Rattle.bicycle_common.proofs.Ranges.{all_below_law, all_true, all_false}
 use Rattle.pauli_string.specs.Strings.{has_pivot}
 use Rattle.pauli_string.proofs.Places.{set_letter_lt}
 use Rattle.pauli_string.proofs.Range.{four_pow}
-use Rattle.pauli_string.proofs.Pivot.{rotate_string}
 use Rattle.native_measurement.specs.Natives.{natives}
 use Rattle.natives.specs.Kept.{kept}
 use Rattle.table.specs.Entries.{depth, field, leads, valid, valid_by, named}
@@ -23,28 +21,7 @@ use Rattle.lookup.specs.Walks.{stands, next, down, good, sound, candidate, bette
 
 -- ---- valid entries
 
-pub valid_none : (q : ℕ) (f : ℕ → ℕ) (v x : ℕ) → field v ≡ 0 → valid q f v x ≡ false
-valid_none q f v x z =
-    let low : ltb 0 (field v) ≡ false = le-ltb 0 (field v) (omega arith) in
-    rw low
-
-pub valid_over : (q : ℕ) (f : ℕ → ℕ) (v x : ℕ) → natives < field v → valid q f v x ≡ false
-valid_over q f v x h =
-    let low : ltb 0 (field v) ≡ true = lt-ltb 0 (field v) (omega arith) in
-    let high : ltb (field v) (natives + 1) ≡ false = le-ltb (field v) (natives + 1) (omega arith) in
-    rw (low, high)
-
--- a field that names a native decides by that native
-pub valid_in : (q : ℕ) (f : ℕ → ℕ) (v x : ℕ) → (field v ≡ 0 → ⊥) → field v ≤ natives → valid q f v x ≡ valid_by q f v x (named v)
-valid_in q f v x some h =
-    let low : ltb 0 (field v) ≡ true = lt-ltb 0 (field v) (omega arith) in
-    let high : ltb (field v) (natives + 1) ≡ true = lt-ltb (field v) (natives + 1) (omega arith) in
-    rw (low, high)
-
--- of the right depth it is enough to be valid
-pub stands_deep : (q : ℕ) (f : ℕ → ℕ) (v d x : ℕ) → depth v ≡ d → stands q f v d x ≡ valid q f v x
-stands_deep q f v d x z = rw (eq-eqb (depth v) d z)
-
+-- a value of another depth does not stand, nor does one that is not valid
 pub stands_other : (q : ℕ) (f : ℕ → ℕ) (v d x : ℕ) → (depth v ≡ d → ⊥) → stands q f v d x ≡ false
 stands_other q f v d x h = rw (ne_eqb (depth v) d h)
 
@@ -101,12 +78,6 @@ module _ (q : ℕ) (f e : ℕ → ℕ) (p : ℕ) where
   -- from x at place k, of which v is the value, the rotation that v names leads to the next place
   pub down_step : (x v k : ℕ) → x ≡ down q f e p k → v ≡ e x → leads q f x (named v) ≡ down q f e p (k + 1)
   down_step x v k a b = ap (λ (w : ℕ). leads q f x (named w)) b ∙ ap (λ (y : ℕ). leads q f y (named (e y))) a ∙ sym (down_next k)
-
-  -- the walk stays among the strings
-  pub down_string : ((n : ℕ) → f n < 4 ^ q) → p < 4 ^ q → (k : ℕ) → down q f e p k < 4 ^ q
-  unfolding down next
-  down_string small h zero = h
-  down_string small h (suc k) = rotate_string q (down q f e p k) (f (named (e (down q f e p k)))) (down_string small h k) (small (named (e (down q f e p k))))
 
   -- place k stands
   abbrev pub At : ℕ → Bool
@@ -249,23 +220,6 @@ pub candidate_string : (q p : ℕ) (l : Pauli) → 0 < q → p < 4 ^ q → candi
 candidate_string q p l positive h =
     subst (λ (n : ℕ). candidate q p l < n) (sym (four_pow q)) (set_letter_lt q p 0 l positive (subst (λ (n : ℕ). p < n) (four_pow q) h))
 
--- three values that add up to 0 are all 0
-pub none_sum : (a b c : ℕ) → eqb (a + b + c) 0 ≡ (eqb a 0 && eqb b 0 && eqb c 0)
-none_sum a b c = elim (ℕ_discrete a 0) [
-  | no h ↦ ne_eqb (a + b + c) 0 (λ z. h (omega arith)) ∙ sym (rw (ne_eqb a 0 h))
-  | yes x ↦ elim (ℕ_discrete b 0) [
-    | no h ↦ ne_eqb (a + b + c) 0 (λ z. h (omega arith)) ∙ sym (rw (eq-eqb a 0 x, ne_eqb b 0 h))
-    | yes y ↦ elim (ℕ_discrete c 0) [
-      | no h ↦ ne_eqb (a + b + c) 0 (λ z. h (omega arith)) ∙ sym (rw (eq-eqb a 0 x, eq-eqb b 0 y, ne_eqb c 0 h))
-      | yes z ↦ eq-eqb (a + b + c) 0 (omega arith) ∙ sym (rw (eq-eqb a 0 x, eq-eqb b 0 y, eq-eqb c 0 z))
-    ]
-  ]
-]
-
--- what is said of three candidates
-pub of_three : {A : Type 0} (h : ℕ → ℕ → ℕ → A) {a b c x z y : ℕ} → a ≡ x → b ≡ z → c ≡ y → h a b c ≡ h x z y
-of_three h {a} {b} {c} {x} {z} {y} i j k = ap₂ (λ (m n : ℕ). h m n c) i j ∙ ap (h x z) k
-
 module _ (q : ℕ) (f e : ℕ → ℕ) where
   -- with all three candidates sound, and one of them with an entry, the best has a good walk
   best_good : (x z y : ℕ) → none_has e x z y ≡ false → all_sound q f e x z y ≡ true → good q f e (best e x z y) ≡ true
@@ -279,9 +233,3 @@ module _ (q : ℕ) (f e : ℕ → ℕ) where
   pub winner_good : (any : Bool) (p : ℕ) → missing any q e p ≡ false → judged any q f e p ≡ true → good q f e (winner any q e p) ≡ true
   winner_good true p some h = best_good (candidate q p X) (candidate q p Z) (candidate q p Y) some h
   winner_good false p some h = h
-
--- and is a string
-pub winner_string : (q : ℕ) (e : ℕ → ℕ) (any : Bool) (p : ℕ) → 0 < q → p < 4 ^ q → winner any q e p < 4 ^ q
-winner_string q e true p positive h =
-    best_of e (candidate q p X) (candidate q p Z) (candidate q p Y) (λ (x : ℕ). x < 4 ^ q) (candidate_string q p X positive h) (candidate_string q p Z positive h) (candidate_string q p Y positive h)
-winner_string q e false p positive h = h

@@ -1,26 +1,21 @@
 -- What the lookups answer, and the natives that they write: the lowest number of 1, 3, 4, 5 (6 without the pivot), 7, 8, 9 that applies, or
 -- the plan. Assumes nothing.
-use Rattle.std.specs.Prelude.{Bool, true, false, cond, List, [], ◌∷◌, ◌≡◌, ℕ, ◌*◌, ◌/◌, ◌%◌, eqb, ltb}
+use Rattle.std.specs.Prelude.{Result, Ok, Err, Bool, true, false, cond, List, [], ◌∷◌, ◌≡◌, ℕ, ◌*◌, ◌/◌, ◌%◌, eqb, ltb}
 use Rattle.std.proofs.lemmas.List.Edits.{sets}
 use Rattle.bicycle_common.specs.declared.Refusal.{Refusal}
 use Rattle.bicycle_common.specs.declared.Refusal.TheVariants.{StringRange, Identity, PivotSet, NoEntry, BadEntry, Room}
-use Rattle.bicycle_common.specs.declared.Outcome.{Outcome}
-use Rattle.bicycle_common.specs.declared.Outcome.TheVariants.{Done, Refused as NotDone}
-use Rattle.bicycle_common.specs.Refusals.{Told, answered, refused}
+use Rattle.bicycle_common.specs.Refusals.{Told, told}
 use Rattle.pauli_string.specs.Strings.{is_string, has_pivot}
 use Rattle.measurement.specs.Measures.{pair_string}
 use Rattle.table.specs.Bytes.{entry}
 use Rattle.table.specs.Entries.{depth, named}
 use Rattle.table.specs.Answers.{given}
-use Rattle.lookup.specs.declared.LookupAnswer.{LookupAnswer}
-use Rattle.lookup.specs.declared.LookupAnswer.TheVariants.{Is, Refused}
 use Rattle.lookup.specs.declared.MeasurementImpl.{MeasurementImpl}
 use Rattle.lookup.specs.Walks.{bottom, rotations, missing, judged, winner}
 
 -- the string measured, the base's native number and its string, the count of rotations
-abbrev pub told_lookup : LookupAnswer → Told
-told_lookup (Is m) = answered (m.measures.0 ∷ m.base.native.0 ∷ m.base.measures.0 ∷ m.rotations ∷ [])
-told_lookup (Refused r) = refused 4 r
+abbrev pub told_lookup : Result MeasurementImpl Refusal → Told
+told_lookup = told 4 (λ (m : MeasurementImpl). m.measures.0 ∷ m.base.native.0 ∷ m.base.measures.0 ∷ m.rotations ∷ [])
 
 -- two bytes for each number, low first
 unfoldable pub two_bytes : List ℕ → List ℕ
@@ -29,15 +24,15 @@ two_bytes (n ∷ ns) = n % 256 ∷ n / 256 ∷ two_bytes ns
 
 -- what is answered, and the natives of the rotations that are written
 pub record Lookup : Type 0 where
-  pub answer : LookupAnswer
+  pub answer : Result MeasurementImpl Refusal
   pub written : List ℕ
 
 -- a refusal writes nothing
 abbrev pub refusing : Refusal → Lookup
-refusing r = record { answer = Refused r; written = [] }
+refusing r = record { answer = Err r; written = [] }
 
 -- the call answers r and leaves in the buffer what it writes, in front; the bytes behind are as they were
-pub record Leaves (o : Lookup) (before : List ℕ) (r : LookupAnswer) (after : List ℕ) : Type 0 where
+pub record Leaves (o : Lookup) (before : List ℕ) (r : Result MeasurementImpl Refusal) (after : List ℕ) : Type 0 where
   pub answer : r ≡ o.answer
   pub buffer : after ≡ sets before 0 (two_bytes o.written)
 
@@ -47,7 +42,7 @@ impl_by b n d p = record { base = record { native = record { 0 = n }; measures =
 
 -- the same as an answer, beside the rotations' natives
 abbrev pub plan_by : ℕ → ℕ → ℕ → ℕ → List ℕ → Lookup
-plan_by b n d p ns = record { answer = Is (impl_by b n d p); written = ns }
+plan_by b n d p ns = record { answer = Ok (impl_by b n d p); written = ns }
 
 module _ (q : ℕ) (f e : ℕ → ℕ) where
   -- the plan that the walk from p tells
@@ -65,13 +60,13 @@ module _ (q : ℕ) (f e : ℕ → ℕ) where
 -- ---- the calls
 
 -- what is answered where a test is passed
-abbrev pub where_passed : Outcome → Lookup → Lookup
-where_passed Done o = o
-where_passed (NotDone r) o = refusing r
+abbrev pub where_passed : Result (Unit {0}) Refusal → Lookup → Lookup
+where_passed (Ok _) o = o
+where_passed (Err r) o = refusing r
 
 -- 5 for the exact lookup of 0, 6 for the pivot-free lookup of a string with a letter on the pivot
-abbrev pub allowed : Bool → ℕ → ℕ → Outcome
-allowed any q p = cond any (cond (has_pivot q p) (NotDone PivotSet) Done) (cond (eqb p 0) (NotDone Identity) Done)
+abbrev pub allowed : Bool → ℕ → ℕ → Result (Unit {0}) Refusal
+allowed any q p = cond any (cond (has_pivot q p) (Err PivotSet) (Ok tt)) (cond (eqb p 0) (Err Identity) (Ok tt))
 
 -- the lookup of p in the table t of a pair, with a buffer of length room
 unfoldable pub looked_up : Bool → ℕ → ℕ → List ℕ → List ℕ → List ℕ → ℕ → ℕ → Lookup

@@ -1,9 +1,8 @@
 -- What an answered plan means. Assumes nothing.
-use Rattle.std.specs.Prelude.{List, ◌≡◌, ℕ, length}
+use Rattle.bicycle_common.specs.declared.Refusal.{Refusal}
+use Rattle.std.specs.Prelude.{Result, Ok, Err, List, ◌≡◌, ℕ, length}
 use Rattle.table.specs.Entries.{KeptFor, Rotation}
 use Rattle.table.specs.Plans.{applied, All}
-use Rattle.lookup.specs.declared.LookupAnswer.{LookupAnswer}
-use Rattle.lookup.specs.declared.LookupAnswer.TheVariants.{Is, Refused}
 use Rattle.lookup.specs.declared.MeasurementImpl.{MeasurementImpl}
 use Rattle.lookup.specs.Answers.{Lookup}
 
@@ -17,9 +16,9 @@ pub record Implements (q : ℕ) (f : ℕ → ℕ) (m : MeasurementImpl) (ns : Li
   pub gives : applied q f m.base.measures.0 ns ≡ p
 
 -- an answered plan with the rotations ns implements p; a refusal claims nothing
-abbrev pub AnswersTruly : ℕ → (ℕ → ℕ) → ℕ → List ℕ → LookupAnswer → Type 0
-AnswersTruly q f p ns (Is m) = Implements q f m ns p
-AnswersTruly q f p ns (Refused r) = Unit {0}
+abbrev pub AnswersTruly : ℕ → (ℕ → ℕ) → ℕ → List ℕ → Result MeasurementImpl Refusal → Type 0
+AnswersTruly q f p ns (Ok m) = Implements q f m ns p
+AnswersTruly q f p ns (Err r) = Unit {0}
 
 -- whatever is answered and written implements p
 abbrev pub Truly : ℕ → (ℕ → ℕ) → ℕ → Lookup → Type 0

@@ -1,6 +1,6 @@
 -- The walk from a string down to a native: at each place the value names the rotation that leads to the next. f n is the string of native n,
 -- e p the value at index p, over q qubits. Assumes nothing.
-use Rattle.std.specs.Prelude.{Bool, true, cond, ◌&&◌, List, ℕ, zero, suc, ◌+◌, ◌-◌, eqb, ltb}
+use Rattle.std.specs.Prelude.{Bool, true, cond, ◌&&◌, List, [], ◌∷◌, ℕ, zero, suc, ◌+◌, ◌-◌, eqb, ltb}
 use Rattle.bicycle_common.specs.declared.Pauli.{Pauli}
 use Rattle.bicycle_common.specs.declared.Pauli.TheVariants.{X, Z, Y}
 use Rattle.bicycle_common.specs.Ranges.{all_below, listed}
@@ -46,6 +46,10 @@ module _ (q : ℕ) (f e : ℕ → ℕ) where
 -- p with a letter on the pivot
 abbrev pub candidate : ℕ → ℕ → Pauli → ℕ
 candidate q p l = set_letter q p 0 l
+
+-- the three, in the order in which the first of equals wins
+abbrev pub candidates : ℕ → ℕ → List ℕ
+candidates q p = candidate q p X ∷ candidate q p Z ∷ candidate q p Y ∷ []
 
 -- of two strings the one that has an entry, of both the one with fewer rotations, a where they are equal
 unfoldable pub better : (ℕ → ℕ) → ℕ → ℕ → ℕ

@@ -10,22 +10,24 @@
 // (see NOTICE).
 #![tactic(auto)]
 
-ghost use Rattle.std.specs.Prelude.{◌≡◌, true, false, ℕ, ◌+◌, ◌*◌, ◌/◌, ◌%◌, ◌^◌, ◌<◌, ◌≤◌, length, set};
+ghost use Rattle.std.specs.Prelude.{◌≡◌, Bool, true, false, ◌&&◌, ℕ, ◌+◌, ◌*◌, ◌/◌, ◌%◌, ◌^◌, ◌<◌, ◌≤◌, ltb, length, map, MatchResult, set};
 ghost use Rattle.std.proofs.lemmas.List.Edits.{sets};
-ghost use Rattle.pauli_string.specs.Strings.{qubits};
+ghost use Rattle.pauli_string.specs.Strings.{qubits, is_string};
 ghost use Rattle.native_measurement.specs.Natives.{natives};
-ghost use Rattle.measurement.specs.Matrices.{side, is_bytes};
+ghost use Rattle.measurement.specs.Matrices.{side};
 ghost use Rattle.measurement.specs.Measures.{pair_string};
-ghost use Rattle.natives.specs.Cells.{shown, Spread};
-ghost use Rattle.table.specs.Bytes.{table_length, entry};
+ghost use Rattle.table.specs.Bytes.{entry};
 ghost use Rattle.table.specs.Entries.{depth, field, named, leads, valid};
-ghost use Rattle.lookup.specs.Walks;
-ghost use Rattle.lookup.specs.Walks.{stands, good, bottom, rotations, sound, none_has, all_sound, missing, judged};
+ghost use Rattle.lookup.specs.Walks.{stands, good, bottom, rotations, sound, candidate, candidates, better, missing, judged, winner};
+ghost use Rattle.lookup.specs.Held.{strings, values};
 ghost use Rattle.lookup.specs.Answers.{two_bytes, Leaves, found, allowed, sought, looked_up, exact, pivot_free};
 
-use bicycle_common::{Outcome, Pauli, Refusal};
-use native_measurement::NativeNumber;
+use bicycle_common::{Pauli, Refusal};
+use measurement::Pair;
+use native_measurement::{NATIVES, NativeNumber};
+use natives::Cells;
 use pauli_string::{PauliString, STRINGS};
+use table::Table;
 
 // A native, and the string that it measures.
 #[derive(Clone, Copy)]
@@ -42,386 +44,362 @@ pub struct MeasurementImpl {
     pub measures: PauliString,
 }
 
+// What a lookup walks by: the values of a table, and the strings of the natives in their cells.
 #[derive(Clone, Copy)]
-pub enum LookupAnswer {
-    Is(MeasurementImpl),
-    Refused(Refusal),
+struct Walker<'a> {
+    table: Table<'a>,
+    cells: &'a Cells,
 }
 
-// ---- one place of a walk
-
-// Whether the value v is a valid entry for string p.
-fn is_valid(cells: &[u32; 36], v: u32, p: u32) -> bool
-    requires { Spread cells.now }
-    ensures { result ≡ valid qubits (shown cells.now) v p }
-{
-    let field = v % 1024;
-    if field == 0 {
-        return false;
-    }
-    if 540 < field {
-        return false;
-    }
-    let n = field - 1;
-    if !natives::is_kept_unchecked(cells, n) {
-        return false;
-    }
-    let string = natives::string_unchecked(cells, n);
-    if v / 1024 == 0 {
-        return string == p;
-    }
-    PauliString(string).has_pivot_support_unchecked()
+// A string, as an index of the table.
+#[derive(Clone, Copy)]
+struct Index {
+    number: u32,
+    ghost string: { number < 4 ^ qubits },
 }
 
-// The same, and of depth d.
-fn stands(cells: &[u32; 36], v: u32, d: u32, p: u32) -> bool
-    requires { Spread cells.now }
-    ensures { result ≡ stands qubits (shown cells.now) v d p }
-{
-    if v / 1024 == d {
-        return is_valid(cells, v, p);
-    }
-    false
-}
-
-// The string to which the rotation by native n leads from p.
-fn next(cells: &[u32; 36], p: u32, n: u32) -> u32
-    requires { (p < 4 ^ qubits) × (n < natives) × Spread cells.now }
-    ensures { result ≡ leads qubits (shown cells.now) p n }
-{
-    let string = natives::string_unchecked(cells, n);
-    let x = PauliString(p).rotate_unchecked(PauliString(string));
-    x.0
-}
-
-// ---- the walk
-
-// Whether the walk from p is good, down to its end. The depth falls by one at each place.
-fn is_good(table: &[u8], cells: &[u32; 36], p: u32) -> bool
-    requires { (length table.now ≡ table_length qubits) × (p < 4 ^ qubits) × Spread cells.now }
-    ensures { result ≡ good qubits (shown cells.now) (entry table.now) p }
-{
-    let mut at = p;
-    let mut v = table::entry_unchecked(table, p);
-    let d = v / 1024;
-    let mut k: u32 = 0;
-    while k < d {
-        if !stands(cells, v, d - k, at) {
-            return false;
+impl Index {
+    // Of string p: 4 where the number is none.
+    fn new(p: PauliString) -> Result<Index, Refusal>
+        ensures { MatchResult result
+            (λ i. (i.number ≡ p.0) × (is_string qubits p.0 ≡ true))
+            (λ r. (r ≡ Refusal.StringRange) × (is_string qubits p.0 ≡ false)) }
+    {
+        if p.0 < STRINGS {
+            Ok(Index { number: p.0 })
+        } else {
+            Err(Refusal::StringRange)
         }
-        at = next(cells, at, v % 1024 - 1);
-        v = table::entry_unchecked(table, at);
-        k += 1;
     }
-    stands(cells, v, 0, at)
+
+    // With the letter l on the pivot.
+    #[tactic(auto, using(crate::proofs::Walks::candidate_string))]
+    fn candidate(self, l: Pauli) -> Index
+        ensures { result.number ≡ candidate qubits self.number l }
+    {
+        Index {
+            number: PauliString(self.number).set_pauli_unchecked(0, l).0,
+        }
+    }
+
+    // With X, Z and Y on the pivot, in the order in which the first of equals wins.
+    fn candidates(self) -> [Index; 3]
+        ensures { map (λ i. i.number) result ≡ candidates qubits self.number }
+    {
+        [Pauli::X, Pauli::Z, Pauli::Y].map(|l| self.candidate(l))
+    }
+}
+
+// Whether the field of v is a native's number and 1. `table_check` has its own, as neither crate knows the other.
+fn names(v: u32) -> bool
+    ensures { result ≡ (ltb 0 (field v) && ltb (field v) (natives + 1)) }
+{
+    0 < v % 1024 && v % 1024 <= u32::from(NATIVES)
 }
 
 // Number n as two bytes, low first, the i-th pair of the buffer.
+// `as` stays, here and below, where there is no `From`: from u32 to u16 and to usize; it is proved to lose nothing.
 fn put_number(out: &mut [u8], i: usize, n: u32)
     requires { (2 * i + 2 ≤ length out.old) × (n < natives) }
     ensures { out.new ≡ set (set out.old (2 * i) (n % 256)) (2 * i + 1) (n / 256) }
 {
-    let j = 2 * i;
-    out[j] = (n % 256) as u8;
-    out[j + 1] = (n / 256) as u8;
+    out[2 * i..2 * i + 2].copy_from_slice(&(n as u16).to_le_bytes());
 }
 
-// Writes the natives of the rotations of the good walk from p, which has d of them, base side first. The answer is the
-// string at the walk's end.
-fn write_rotations(table: &[u8], cells: &[u32; 36], p: u32, d: u32, out: &mut [u8]) -> u32
-    requires table_len { (length table.now ≡ table_length qubits) × (p < 4 ^ qubits) × Spread cells.now }
-    requires d_value { (d ≡ depth (entry table.now p)) × (2 * d ≤ length out.old) × (good qubits (shown cells.now) (entry table.now) p ≡ true) }
-    ensures { (result ≡ bottom qubits (shown cells.now) (entry table.now) p) × (out.new ≡ sets out.old 0 (two_bytes (rotations qubits (shown cells.now) (entry table.now) p))) }
-{
-    let mut at = p;
-    let mut left = d;
-    while 0 < left {
-        let n = table::entry_unchecked(table, at) % 1024 - 1;
-        left -= 1;
-        put_number(out, left as usize, n);
-        at = next(cells, at, n);
-    }
-    at
-}
+impl Walker<'_> {
+    // ---- one place
 
-// ---- the plan
-
-// The plan of the good walk from p, if the buffer has room for it.
-fn found(table: &[u8], cells: &[u32; 36], p: u32, out: &mut [u8]) -> LookupAnswer
-    requires table_len { (length table.now ≡ table_length qubits) × (p < 4 ^ qubits) × Spread cells.now }
-    requires p_value { good qubits (shown cells.now) (entry table.now) p ≡ true }
-    ensures { Leaves (found qubits (shown cells.now) (entry table.now) p (length out.old)) out.old result out.new }
-{
-    let d = table::entry_unchecked(table, p) / 1024;
-    let needed = 2 * d as usize;
-    if out.len() < needed {
-        return LookupAnswer::Refused(Refusal::Room(needed));
+    // Whether the value v is a valid entry for string p. v is handed down, as it is read once for each string.
+    fn is_valid(self, v: u32, p: u32) -> bool
+        ensures { result ≡ valid qubits (strings self.entry) v p }
+    {
+        if !names(v) || !self.cells.is_kept_unchecked(v % 1024 - 1) {
+            return false;
+        }
+        let string = self.cells.string_unchecked(v % 1024 - 1);
+        if v / 1024 == 0 {
+            string == p
+        } else {
+            PauliString(string).has_pivot_support_unchecked()
+        }
     }
-    let bottom = write_rotations(table, cells, p, d, out);
-    let n = table::entry_unchecked(table, bottom) % 1024 - 1;
-    let number = n as u16;
-    let base = NativeMeasurementImpl {
-        native: NativeNumber(number),
-        measures: PauliString(bottom),
-    };
-    LookupAnswer::Is(MeasurementImpl {
-        base,
-        rotations: d,
-        measures: PauliString(p),
-    })
+
+    // The same, and of depth d.
+    fn stands(self, v: u32, d: u32, p: u32) -> bool
+        ensures { result ≡ stands qubits (strings self.entry) v d p }
+    {
+        v / 1024 == d && self.is_valid(v, p)
+    }
+
+    // The string to which the rotation by native n leads from p.
+    #[tactic(auto, using(natives::proofs::Shown::shown_lt, pauli_string::proofs::Pivot::rotate_string))]
+    fn next(self, p: Index, n: u32) -> Index
+        requires { n < natives }
+        ensures { result.number ≡ leads qubits (strings self.entry) p.number n }
+    {
+        let string = self.cells.string_unchecked(n);
+        Index {
+            number: PauliString(p.number)
+                .rotate_unchecked(PauliString(string))
+                .0,
+        }
+    }
+
+    // ---- the walk
+
+    // Whether the walk from p is good, down to its end. The depth falls by one at each place.
+    fn is_good(self, p: Index) -> bool
+        ensures { result ≡ good qubits (strings self.entry) (values self.entry) p.number }
+    {
+        let mut at = p;
+        let mut v = self.table.entry_unchecked(p.number);
+        let d = v / 1024;
+        for depth in (1..=d).rev() {
+            if !self.stands(v, depth, at.number) {
+                return false;
+            }
+            at = self.next(at, v % 1024 - 1);
+            v = self.table.entry_unchecked(at.number);
+        }
+        self.stands(v, 0, at.number)
+    }
+
+    // Whether p has no entry, or a good walk.
+    #[tactic(auto, unfolding(crate::specs::Walks::sound))]
+    fn is_sound(self, p: Index) -> bool
+        ensures { result ≡ sound qubits (strings self.entry) (values self.entry) p.number }
+    {
+        self.table.entry_unchecked(p.number) == 0 || self.is_good(p)
+    }
+
+    // False only where p has an entry and a bad walk: the walk down, with no test but of depths and fields. There is so
+    // little to do at each place that the reads of one walk overlap with those of the next.
+    // A loop of its own: one over the test, for this and `is_good`, has a contract longer than the loop that it saves.
+    fn falls(self, p: Index) -> bool
+        ensures { result ≡ false → sound qubits (strings self.entry) (values self.entry) p.number ≡ false }
+    {
+        let mut at = p;
+        let mut v = self.table.entry_unchecked(p.number);
+        let d = v / 1024;
+        for depth in (1..=d).rev() {
+            if v / 1024 != depth || !names(v) {
+                return false;
+            }
+            at = self.next(at, v % 1024 - 1);
+            v = self.table.entry_unchecked(at.number);
+        }
+        true
+    }
+
+    // ---- the plan
+
+    // Writes the natives of the rotations of the good walk from p, which has d of them, base side first. The answer is the
+    // string at the walk's end.
+    fn write_rotations(self, p: Index, d: u32, out: &mut [u8]) -> Index
+        requires p_value { good qubits (strings self) (values self) p.number ≡ true }
+        requires d_value { (d ≡ depth (values self p.number)) × (2 * d ≤ length out.old) }
+        ensures { (result.number ≡ bottom qubits (strings self.entry) (values self.entry) p.number) × (out.new ≡ sets out.old 0 (two_bytes (rotations qubits (strings self.entry) (values self.entry) p.number))) }
+    {
+        let mut at = p;
+        for left in (0..d).rev() {
+            let n = self.table.entry_unchecked(at.number) % 1024 - 1;
+            put_number(out, left as usize, n);
+            at = self.next(at, n);
+        }
+        at
+    }
+
+    // The plan of the good walk from p, if the buffer has room for it.
+    #[tactic(auto, unfolding(crate::specs::Answers::two_bytes))]
+    fn found(self, p: Index, out: &mut [u8]) -> Result<MeasurementImpl, Refusal>
+        requires { good qubits (strings self) (values self) p.number ≡ true }
+        ensures { Leaves (found qubits (strings self.entry) (values self.entry) p.number (length out.old)) out.old result out.new }
+    {
+        let d = self.table.entry_unchecked(p.number) / 1024;
+        let needed = 2 * d as usize;
+        if out.len() < needed {
+            return Err(Refusal::Room(needed));
+        }
+        let bottom = self.write_rotations(p, d, out);
+        let n = self.table.entry_unchecked(bottom.number) % 1024 - 1;
+        Ok(MeasurementImpl {
+            base: NativeMeasurementImpl {
+                native: NativeNumber(n as u16),
+                measures: PauliString(bottom.number),
+            },
+            rotations: d,
+            measures: PauliString(p.number),
+        })
+    }
+
+    // The lookup of p, where there is an entry.
+    #[tactic(auto, unfolding(crate::specs::Answers::two_bytes), using(crate::proofs::Walks::winner_good))]
+    fn look_sought<K: Kind>(self, p: Index, out: &mut [u8]) -> Result<MeasurementImpl, Refusal>
+        requires { missing K.any qubits (values self) p.number ≡ false }
+        ensures { Leaves (sought qubits (strings self.entry) (values self.entry) K.any p.number (length out.old)) out.old result out.new }
+    {
+        if !K::is_judged(self, p) {
+            return Err(Refusal::BadEntry);
+        }
+        let w = K::winner(self.table, p);
+        self.found(w, out)
+    }
 }
 
 // ---- the candidates of the pivot-free lookup
 
-// p with a letter on the pivot.
-fn candidate(p: u32, l: Pauli) -> u32
-    requires { p < 4 ^ qubits }
-    ensures { (result ≡ Walks.candidate qubits p l) × (result < 4 ^ qubits) }
-{
-    let c = PauliString(p).set_pauli_unchecked(0, l);
-    c.0
-}
-
-// Whether p has no entry, or a good walk.
-fn is_sound(table: &[u8], cells: &[u32; 36], p: u32) -> bool
-    requires { (length table.now ≡ table_length qubits) × (p < 4 ^ qubits) × Spread cells.now }
-    ensures { result ≡ sound qubits (shown cells.now) (entry table.now) p }
-{
-    if table::entry_unchecked(table, p) == 0 {
-        return true;
-    }
-    is_good(table, cells, p)
-}
-
 // Of two strings the one that has an entry, of both the one with fewer rotations, a where they are equal.
-fn better(table: &[u8], a: u32, b: u32) -> u32
-    requires { (length table.now ≡ table_length qubits) × (a < 4 ^ qubits) × (b < 4 ^ qubits) }
-    ensures { result ≡ Walks.better (entry table.now) a b }
+#[tactic(auto, unfolding(crate::specs::Walks::better))]
+fn better(table: Table<'_>, a: Index, b: Index) -> Index
+    ensures { result.number ≡ better (entry table.entry.bytes.now) a.number b.number }
 {
-    let v = table::entry_unchecked(table, a);
-    if v == 0 {
-        return b;
+    let v = table.entry_unchecked(a.number);
+    let w = table.entry_unchecked(b.number);
+    if v == 0 || w != 0 && w / 1024 < v / 1024 {
+        b
+    } else {
+        a
     }
-    let w = table::entry_unchecked(table, b);
-    if w == 0 {
-        return a;
-    }
-    if w / 1024 < v / 1024 {
-        return b;
-    }
-    a
-}
-
-// The best of three strings.
-fn best(table: &[u8], x: u32, z: u32, y: u32) -> u32
-    requires { (length table.now ≡ table_length qubits) × (x < 4 ^ qubits) × (z < 4 ^ qubits) × (y < 4 ^ qubits) }
-    ensures { result ≡ Walks.best (entry table.now) x z y }
-{
-    let first = better(table, x, z);
-    better(table, first, y)
-}
-
-// Whether none of three strings has an entry. All three are read before one is tested, so that the reads overlap.
-fn none_has(table: &[u8], x: u32, z: u32, y: u32) -> bool
-    requires { (length table.now ≡ table_length qubits) × (x < 4 ^ qubits) × (z < 4 ^ qubits) × (y < 4 ^ qubits) }
-    ensures { result ≡ none_has (entry table.now) x z y }
-{
-    let a = table::entry_unchecked(table, x) as u64;
-    let b = table::entry_unchecked(table, z) as u64;
-    let c = table::entry_unchecked(table, y) as u64;
-    a + b + c == 0
-}
-
-// Whether v has depth d, and a field that names a native.
-fn names(v: u32, d: u32) -> bool
-    ensures { (result ≡ true → (0 < field v) × (named v < natives)) × (result ≡ false → (f : ℕ → ℕ) (x : ℕ) → stands qubits f v d x ≡ false) }
-{
-    if v / 1024 != d {
-        return false;
-    }
-    let n = v % 1024;
-    if n == 0 {
-        return false;
-    }
-    if 540 < n {
-        return false;
-    }
-    true
-}
-
-// False only where p has an entry and a bad walk: the walk down, with no test but of depths and fields. There is so little
-// to do at each place that the reads of one walk overlap with those of the next.
-fn falls(table: &[u8], cells: &[u32; 36], p: u32) -> bool
-    requires { (length table.now ≡ table_length qubits) × (p < 4 ^ qubits) × Spread cells.now }
-    ensures { result ≡ false → sound qubits (shown cells.now) (entry table.now) p ≡ false }
-{
-    let mut at = p;
-    let mut v = table::entry_unchecked(table, p);
-    let d = v / 1024;
-    let mut k: u32 = 0;
-    while k < d {
-        if !names(v, d - k) {
-            return false;
-        }
-        at = next(cells, at, v % 1024 - 1);
-        v = table::entry_unchecked(table, at);
-        k += 1;
-    }
-    true
-}
-
-// Whether each of three strings has no entry, or a good walk.
-fn all_sound(table: &[u8], cells: &[u32; 36], x: u32, z: u32, y: u32) -> bool
-    requires { (length table.now ≡ table_length qubits) × (x < 4 ^ qubits) × (z < 4 ^ qubits) × (y < 4 ^ qubits) × Spread cells.now }
-    ensures { result ≡ all_sound qubits (shown cells.now) (entry table.now) x z y }
-{
-    if !falls(table, cells, x) {
-        return false;
-    }
-    if !falls(table, cells, z) {
-        return false;
-    }
-    if !falls(table, cells, y) {
-        return false;
-    }
-    if !is_sound(table, cells, x) {
-        return false;
-    }
-    if !is_sound(table, cells, z) {
-        return false;
-    }
-    is_sound(table, cells, y)
 }
 
 // ---- which string is looked up: p itself, or with any letter on the pivot the best candidate
 
-// Whether p has no entry, or no candidate has.
-fn is_missing(table: &[u8], p: u32, any: bool) -> bool
-    requires { (length table.now ≡ table_length qubits) × (p < 4 ^ qubits) }
-    ensures { result ≡ missing any qubits (entry table.now) p }
-{
-    if any {
-        let x = candidate(p, Pauli::X);
-        let z = candidate(p, Pauli::Z);
-        let y = candidate(p, Pauli::Y);
-        return none_has(table, x, z, y);
-    }
-    table::entry_unchecked(table, p) == 0
+// What the two lookups have apart, each beside the case `any` of the definitions.
+trait Kind {
+    // With any letter on the pivot
+    ghost any: { Bool };
+
+    // Whether p may be looked up: not 0 itself (5), and with any letter on the pivot no string that has one there (6).
+    fn is_allowed(p: PauliString) -> Result<(), Refusal>
+        ensures { result ≡ allowed any qubits p.0 };
+
+    // Whether p has no entry, or no candidate has.
+    fn is_missing(table: Table<'_>, p: Index) -> bool
+        ensures { result ≡ missing any qubits (entry table.entry.bytes.now) p.number };
+
+    // Whether the walk from p is good, or that of every candidate with an entry.
+    fn is_judged(walker: Walker<'_>, p: Index) -> bool
+        ensures { result ≡ judged any qubits (strings walker.entry) (values walker.entry) p.number };
+
+    fn winner(table: Table<'_>, p: Index) -> Index
+        ensures { result.number ≡ winner any qubits (entry table.entry.bytes.now) p.number };
 }
 
-// Whether the walk from p is good, or that of every candidate with an entry.
-fn is_judged(table: &[u8], cells: &[u32; 36], p: u32, any: bool) -> bool
-    requires { (length table.now ≡ table_length qubits) × (p < 4 ^ qubits) × Spread cells.now }
-    ensures { result ≡ judged any qubits (shown cells.now) (entry table.now) p }
-{
-    if any {
-        let x = candidate(p, Pauli::X);
-        let z = candidate(p, Pauli::Z);
-        let y = candidate(p, Pauli::Y);
-        return all_sound(table, cells, x, z, y);
+struct Exact;
+
+impl Kind for Exact {
+    ghost any = { false };
+
+    fn is_allowed(p: PauliString) -> Result<(), Refusal> {
+        if p.0 == 0 {
+            return Err(Refusal::Identity);
+        }
+        Ok(())
     }
-    is_good(table, cells, p)
+
+    fn is_missing(table: Table<'_>, p: Index) -> bool {
+        table.entry_unchecked(p.number) == 0
+    }
+
+    fn is_judged(walker: Walker<'_>, p: Index) -> bool {
+        walker.is_good(p)
+    }
+
+    fn winner(_table: Table<'_>, p: Index) -> Index {
+        p
+    }
 }
 
-fn winner(table: &[u8], p: u32, any: bool) -> u32
-    requires { (length table.now ≡ table_length qubits) × (p < 4 ^ qubits) }
-    ensures { result ≡ Walks.winner any qubits (entry table.now) p }
-{
-    if any {
-        let x = candidate(p, Pauli::X);
-        let z = candidate(p, Pauli::Z);
-        let y = candidate(p, Pauli::Y);
-        return best(table, x, z, y);
-    }
-    p
-}
+struct PivotFree;
 
-// The lookup over the natives' cells, where there is an entry.
-fn look_sought(table: &[u8], cells: &[u32; 36], p: u32, any: bool, out: &mut [u8]) -> LookupAnswer
-    requires table_len { (length table.now ≡ table_length qubits) × (p < 4 ^ qubits) × Spread cells.now }
-    requires p_value { missing any qubits (entry table.now) p ≡ false }
-    ensures { Leaves (sought qubits (shown cells.now) (entry table.now) any p (length out.old)) out.old result out.new }
-{
-    if !is_judged(table, cells, p, any) {
-        return LookupAnswer::Refused(Refusal::BadEntry);
+impl Kind for PivotFree {
+    ghost any = { true };
+
+    fn is_allowed(p: PauliString) -> Result<(), Refusal> {
+        if p.has_pivot_support_unchecked() {
+            return Err(Refusal::PivotSet);
+        }
+        Ok(())
     }
-    let w = winner(table, p, any);
-    found(table, cells, w, out)
+
+    // All three are read before one is tested, so that the reads overlap.
+    fn is_missing(table: Table<'_>, p: Index) -> bool {
+        let [x, z, y] = p.candidates();
+        let values = u64::from(table.entry_unchecked(x.number))
+            + u64::from(table.entry_unchecked(z.number))
+            + u64::from(table.entry_unchecked(y.number));
+        values == 0
+    }
+
+    fn is_judged(walker: Walker<'_>, p: Index) -> bool {
+        let [x, z, y] = p.candidates();
+        [x, z, y].iter().all(|c| walker.falls(*c)) && [x, z, y].iter().all(|c| walker.is_sound(*c))
+    }
+
+    fn winner(table: Table<'_>, p: Index) -> Index {
+        let [x, z, y] = p.candidates();
+        better(table, better(table, x, z), y)
+    }
 }
 
 // ---- the calls
 
-// Whether p may be looked up: not 0 itself (5), and with any letter on the pivot no string that has one there (6).
-fn is_allowed(p: PauliString, any: bool) -> Outcome
-    ensures { result ≡ allowed any qubits p.0 }
-{
-    if any {
-        if p.has_pivot_support_unchecked() {
-            return Outcome::Refused(Refusal::PivotSet);
-        }
-        return Outcome::Done;
-    }
-    if p.0 == 0 {
-        return Outcome::Refused(Refusal::Identity);
-    }
-    Outcome::Done
-}
-
 // The lookup of p, or of p with any letter on the pivot, with the natives formed from the pair.
-fn look_pair(table: &[u8], mx: &[u8], my: &[u8], p: u32, any: bool, out: &mut [u8]) -> LookupAnswer
-    requires table_len { (length table.now ≡ table_length qubits) × (p < 4 ^ qubits) }
-    requires mx_value { (is_bytes side mx.now ≡ true) × (is_bytes side my.now ≡ true) }
-    ensures { Leaves (sought qubits (pair_string side mx.now my.now) (entry table.now) any p (length out.old)) out.old result out.new }
+#[tactic(auto, unfolding(crate::specs::Answers::two_bytes), using(crate::proofs::Same::sought_same))]
+fn look_pair<K: Kind>(
+    table: Table<'_>,
+    pair: Pair<'_>,
+    p: Index,
+    out: &mut [u8],
+) -> Result<MeasurementImpl, Refusal>
+    ensures { Leaves (sought qubits (pair_string side pair.entry.mx.now pair.entry.my.now) (entry table.entry.bytes.now) K.any p.number (length out.old)) out.old result out.new }
 {
-    if is_missing(table, p, any) {
-        return LookupAnswer::Refused(Refusal::NoEntry);
+    if K::is_missing(table, p) {
+        return Err(Refusal::NoEntry);
     }
-    let cells = natives::cells_unchecked(mx, my);
-    look_sought(table, &cells, p, any, out)
+    let cells = natives::cells_unchecked(pair);
+    let walker = Walker {
+        table,
+        cells: &cells,
+    };
+    walker.look_sought::<K>(p, out)
 }
 
 // The same with every test, in the order of their numbers.
-fn look_up(
+#[tactic(auto, unfolding(crate::specs::Answers::two_bytes, crate::specs::Answers::looked_up))]
+fn look_up<K: Kind>(
     table: &[u8],
     mx: &[u8],
     my: &[u8],
     p: PauliString,
-    any: bool,
     out: &mut [u8],
-) -> LookupAnswer
-    ensures { Leaves (looked_up any qubits side table.now mx.now my.now p.0 (length out.old)) out.old result out.new }
+) -> Result<MeasurementImpl, Refusal>
+    ensures { Leaves (looked_up K.any qubits side table.now mx.now my.now p.0 (length out.old)) out.old result out.new }
 {
-    if let Outcome::Refused(r) = table::given(table, mx, my) {
-        return LookupAnswer::Refused(r);
-    }
-    if p.0 >= STRINGS {
-        return LookupAnswer::Refused(Refusal::StringRange);
-    }
-    if let Outcome::Refused(r) = is_allowed(p, any) {
-        return LookupAnswer::Refused(r);
-    }
-    look_pair(table, mx, my, p.0, any, out)
+    let table = Table::new(table)?;
+    let pair = Pair::new(mx, my)?;
+    let at = Index::new(p)?;
+    K::is_allowed(p)?;
+    look_pair::<K>(table, pair, at, out)
 }
 
 // The same work: the front of the caller's own buffer that it filled, empty on a refusal.
-fn front<'a>(
+fn front<'a, K: Kind>(
     table: &[u8],
     mx: &[u8],
     my: &[u8],
     p: PauliString,
-    any: bool,
     out: &'a mut [u8],
 ) -> &'a mut [u8]
-    ensures { (result.now ≡ two_bytes (looked_up any qubits side table.now mx.now my.now p.0 (length out.old)).written) × (result.ref_ptr ≡ out.entry.ref_ptr) }
+    ensures { (result.now ≡ two_bytes (looked_up K.any qubits side table.now mx.now my.now p.0 (length out.old)).written) × (result.ref_ptr ≡ out.entry.ref_ptr) }
 {
-    match look_up(table, mx, my, p, any, out) {
-        LookupAnswer::Is(m) => {
-            let k = 2 * m.rotations as usize;
-            &mut out[..k]
-        }
-        LookupAnswer::Refused(_) => &mut out[..0],
-    }
+    let k = look_up::<K>(table, mx, my, p, out).map_or(0, |m| 2 * m.rotations as usize);
+    &mut out[..k]
 }
+
+// Both lookups are `look_up` and `front`: what follows has the names and parameters that README gives their calls.
+
+// Both lookups are `look_up` and `front`: what follows has the names and parameters that README gives their calls.
 
 // The plan of string p by the table of the pair: a native, and rotations whose natives are written to the buffer, base
 // side first, two bytes each, low first.
@@ -431,10 +409,10 @@ pub fn implementation(
     my: &[u8],
     p: PauliString,
     out: &mut [u8],
-) -> LookupAnswer
+) -> Result<MeasurementImpl, Refusal>
     ensures { Leaves (exact qubits side table.now mx.now my.now p.0 (length out.old)) out.old result out.new }
 {
-    look_up(table, mx, my, p, false, out)
+    look_up::<Exact>(table, mx, my, p, out)
 }
 
 // The rotations of that plan: the front of the caller's own buffer that holds them, empty on a refusal.
@@ -447,15 +425,21 @@ pub fn rotations<'a>(
 ) -> &'a mut [u8]
     ensures { (result.now ≡ two_bytes (exact qubits side table.now mx.now my.now p.0 (length out.old)).written) × (result.ref_ptr ≡ out.entry.ref_ptr) }
 {
-    front(table, mx, my, p, false, out)
+    front::<Exact>(table, mx, my, p, out)
 }
 
 // The plan for p, which has no letter on the pivot, with the letter there that needs the fewest rotations, the first of
 // X, Z, Y where several do.
-pub fn min_data(table: &[u8], mx: &[u8], my: &[u8], p: PauliString, out: &mut [u8]) -> LookupAnswer
+pub fn min_data(
+    table: &[u8],
+    mx: &[u8],
+    my: &[u8],
+    p: PauliString,
+    out: &mut [u8],
+) -> Result<MeasurementImpl, Refusal>
     ensures { Leaves (pivot_free qubits side table.now mx.now my.now p.0 (length out.old)) out.old result out.new }
 {
-    look_up(table, mx, my, p, true, out)
+    look_up::<PivotFree>(table, mx, my, p, out)
 }
 
 // The rotations of that plan: the front of the caller's own buffer that holds them, empty on a refusal.
@@ -468,5 +452,5 @@ pub fn min_data_rotations<'a>(
 ) -> &'a mut [u8]
     ensures { (result.now ≡ two_bytes (pivot_free qubits side table.now mx.now my.now p.0 (length out.old)).written) × (result.ref_ptr ≡ out.entry.ref_ptr) }
 {
-    front(table, mx, my, p, true, out)
+    front::<PivotFree>(table, mx, my, p, out)
 }

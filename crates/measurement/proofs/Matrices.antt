@@ -9,12 +9,12 @@ use native.Mathlib.Omega.{arith}
 use mir.Val.{bool_byte}
 use lib.Dec.{T, eqb, leb, eqb→eq, leb→le}
 use lib.ListN.{length}
-use borrow.Author.Tests.{le-leb, lt-leb, eq-eqb}
+use borrow.Author.Tests.{le-leb, eq-eqb}
 use Rattle.bicycle_common.specs.declared.AutomorphismData.{AutomorphismData}
 use Rattle.bicycle_common.specs.Letters.{flag}
 use Rattle.bicycle_common.specs.Automorphisms.{component}
 use Rattle.bicycle_common.specs.Ranges.{sum, all_below}
-use Rattle.bicycle_common.proofs.Ranges.{sum_same, all_below_law, all_true, all_false, all_same, length_from, listed_at}
+use Rattle.bicycle_common.proofs.Ranges.{sum_same, all_below_law, all_true, all_same, length_from, listed_at}
 use Rattle.bicycle_common.proofs.Letters.{flag_le}
 use Rattle.measurement.specs.Matrices.{side, Matrix, of_rows, by_rows, of_bytes, one, mul, pow, is_binary, is_bytes, Binary, Same}
 use Rattle.measurement.specs.Measures.{action, packed}
@@ -67,10 +67,6 @@ is_binary_law s m t i k hi hk =
 pub binary_true : (s : ℕ) (m : Matrix) → Binary s m → is_binary s m ≡ true
 unfolding is_binary
 binary_true s m h = all_true s _ (λ i hi. all_true s _ (λ k hk. le-leb (m i k) 1 (h i k hi hk)))
-
-pub binary_false : (s : ℕ) (m : Matrix) (i k : ℕ) → i < s → k < s → 1 < m i k → is_binary s m ≡ false
-unfolding is_binary
-binary_false s m i k hi hk h = all_false s _ i hi (all_false s _ k hk (lt-leb (m i k) 1 h))
 
 pub binary_same : (s : ℕ) {a b : Matrix} → Same s a b → is_binary s a ≡ is_binary s b
 unfolding is_binary

@@ -1,7 +1,8 @@
 -- The strings that natives measure: they depend on the numbers of the matrices alone, are below 4 ^ (2 * s), and string 1 is always among
 -- them. Assumes nothing.
+use Rattle.std.specs.Prelude.{Ok, Err}
 use mathlib.Core.Path.{◌≡◌, refl, sym, ap, ap₂, ◌∙◌}
-use mathlib.Core.Bool.{Bool, true, false, cond, ◌&&◌, and-eq-true_iff}
+use mathlib.Core.Bool.{Bool, true, cond, ◌&&◌, and-eq-true_iff}
 use mathlib.Core.List.{List}
 use Prim.Native.Nat.{ℕ, zero, suc, ◌+◌, ◌-◌, ◌*◌, ◌^◌, ◌<◌, ◌≤◌}
 use native.Mathlib.Nat.{mul-le-mul, mul-add, add-mul, mul-one}
@@ -12,21 +13,18 @@ use lib.ListN.{length, get_or}
 use borrow.Author.Tests.{eqb-true, ne_eqb}
 use Rattle.bicycle_common.specs.declared.Pauli.{Pauli}
 use Rattle.bicycle_common.specs.declared.AutomorphismData.{AutomorphismData}
-use Rattle.bicycle_common.specs.declared.Refusal.{Refusal}
-use Rattle.bicycle_common.specs.declared.Refusal.TheVariants.{Matrix as NoMatrix, NativeRange}
+use Rattle.bicycle_common.specs.declared.Refusal.TheVariants.{NativeRange}
 use Rattle.bicycle_common.specs.Letters.{flag, x_of, z_of}
 use Rattle.bicycle_common.specs.Automorphisms.{inverse}
 use Rattle.bicycle_common.specs.Ranges.{sum, listed}
 use Rattle.bicycle_common.proofs.Ranges.{listed_at}
 use Rattle.bicycle_common.proofs.Letters.{x_of_lt, z_of_lt}
-use Rattle.pauli_string.specs.declared.StringAnswer.TheVariants.{Refused as NoString}
 use Rattle.pauli_string.specs.Answers.{string}
 use Rattle.pauli_string.proofs.Range.{four_pow}
 use Rattle.native_measurement.specs.declared.NativeMeasurement.{NativeMeasurement}
-use Rattle.native_measurement.specs.declared.NativeAnswer.TheVariants.{Is as NativeIs, Refused as NoNative}
 use Rattle.native_measurement.specs.Answers.{native_at}
 use Rattle.native_measurement.specs.Natives.{natives, native_of}
-use Rattle.native_measurement.proofs.Natives.{native_none, native_some}
+use Rattle.native_measurement.proofs.Natives.{native_some}
 use Rattle.measurement.specs.Matrices.{Matrix, of_bytes, one, mul, pow, is_binary, is_bytes, Binary, Same}
 use Rattle.measurement.specs.Measures.{action, packed, first_column, first_row, placed, placed_by, measured, native_string}
 use Rattle.measurement.specs.Answers.{measures_if}
@@ -153,30 +151,21 @@ native_one (suc s) z a b = native_one_suc s a b
 -- ---- what the calls answer
 
 module _ (s : ℕ) (mx my : Matrix) (n : ℕ) where
-  pub first_bad : (a b : Bool) → a ≡ false → NoString NoMatrix ≡ measures_if (a && b) s mx my n
-  first_bad a b e = rw e
-
-  pub second_bad : (a b : Bool) → a ≡ true → b ≡ false → NoString NoMatrix ≡ measures_if (a && b) s mx my n
-  second_bad a b ea eb = rw (ea, eb)
-
   pub both_good : (a b : Bool) → a ≡ true → b ≡ true → measures_if true s mx my n ≡ measures_if (a && b) s mx my n
   both_good a b ea eb = rw (ea, eb)
-
-  pub no_native : (r : Refusal) → native_at n ≡ NoNative r → NoString NativeRange ≡ measures_if true s mx my n
-  no_native r h = rw (native_none n r h)
 
   string_is : (m : NativeMeasurement) → native_of n ≡ m → (p : ℕ) → p ≡ measured s mx my m → string p ≡ string (native_string s mx my n)
   unfolding native_string
   string_is m f p e = ap string (e ∙ ap (measured s mx my) (sym f))
 
-  pub the_string : (m : NativeMeasurement) → native_at n ≡ NativeIs m → (p : ℕ) → p ≡ measured s mx my m → string p ≡ measures_if true s mx my n
+  pub the_string : (m : NativeMeasurement) → native_at n ≡ Ok m → (p : ℕ) → p ≡ measured s mx my m → string p ≡ measures_if true s mx my n
   the_string m h p ep = let q = native_some n m h in rw q.0 (string_is m q.1 p ep)
 
 -- ---- rows and bytes
 
 -- what is answered of a good pair depends on the numbers of the matrices alone, however they are held
 pub answer_same : (s : ℕ) {a b c d : Matrix} → 0 < s → Same s a b → Same s c d → (n : ℕ) → measures_if true s a c n ≡ measures_if true s b d n
-answer_same s z p q n = ap (λ (t : ℕ). cond (ltb n natives) (string t) (NoString NativeRange)) (native_same s z p q n)
+answer_same s z p q n = ap (λ (t : ℕ). cond (ltb n natives) (string t) (Err NativeRange)) (native_same s z p q n)
 
 pub bytes_good : (s : ℕ) (m : List ℕ) → is_bytes s m ≡ true → (length m ≡ s * s) × Binary s (of_bytes s m)
 bytes_good s m e =

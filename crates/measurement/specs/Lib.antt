@@ -1,6 +1,5 @@
 -- What the contracts of `measurement` cite.
 pub mod Matrices
-pub mod Overs
 pub mod Measures
 pub mod Codes
 pub mod Answers

@@ -12,7 +12,7 @@ use borrow.Author.Tests.{eq-eqb, ne_eqb}
 use Rattle.pauli_string.specs.Strings.{clashes, commute, conj, blank, rotate}
 use Rattle.pauli_string.proofs.Commutation.{conj_commuting, conj_anti}
 use Rattle.natives.specs.Arrays.{at}
-use Rattle.rotations.specs.Packed.{Rotations}
+use Rattle.rotations.specs.Packed.{Blanked}
 use Rattle.moves.specs.Moves.{Led, none, stays, moves, Gathered}
 
 -- a rotation by a blanked string, decided by the clashes
@@ -33,7 +33,7 @@ module _ {q p : ℕ} {rs ns xs gs : List ℕ} where
   led_same xs' gs' wx wg (moves {k} h x n) =
       moves (led_same xs' gs' (λ j l. wx j (omega arith)) (λ j l. wg j (omega arith)) h) (wx k (omega arith) ∙ x) (wg k (omega arith) ∙ n)
 
-module _ (q p : ℕ) (rs ns : List ℕ) (m i : ℕ) (xs gs : List ℕ) (k : ℕ) (R : Rotations q rs ns m) (l : i < m) (g : Gathered q p rs ns i xs gs k) where
+module _ (q p : ℕ) (rs ns : List ℕ) (m i : ℕ) (xs gs : List ℕ) (k : ℕ) (R : Blanked q rs ns m) (l : i < m) (g : Gathered q p rs ns i xs gs k) where
   abbrev y : ℕ
   y = bit_xor p (at rs i)
 

@@ -15,10 +15,22 @@ ghost use Rattle.std.specs.Int.Count.{ones};
 ghost use Rattle.pauli_string.specs.Strings.{qubits};
 ghost use Rattle.native_measurement.specs.Natives.{natives};
 ghost use Rattle.natives.specs.Arrays.{at};
-ghost use Rattle.rotations.specs.Packed.{Rotations};
 ghost use Rattle.moves.specs.Moves.{Scratch, Odds, Gathered};
 
-// X and Z digits exchanged.
+use rotations::Rotations;
+
+// The strings to which single rotations move one string, in front, and the numbers of the rotations' natives. Two arrays, as
+// in `Rotations`.
+#[derive(Drop)]
+pub struct Moved {
+    pub strings: [u32; 540],
+    pub natives: [u32; 540],
+    pub count: usize,
+    pub ghost few: { count ≤ 540 },
+    pub ghost scratch: { Scratch strings natives },
+}
+
+// X and Z digits exchanged: once for all rotations, where `PauliString::commutes_with_unchecked` does it for each pair.
 fn transposed(p: u32) -> u32
     requires { p < 4 ^ qubits }
     ensures { result ≡ p % 2 ^ qubits * 2 ^ qubits + p / 2 ^ qubits }
@@ -39,40 +51,31 @@ fn odd(t: u32, r: u32) -> u32
     (d ^ (d >> 1) ^ (d >> 2)) % 2
 }
 
-// The same for each of the first m of rs, in gs: a loop of its own, since it takes four at once.
-fn odds(t: u32, rs: &[u32; 540], m: usize, gs: &mut [u32; 540])
-    requires { (length gs.old ≡ natives) × (m ≤ natives) × ((i : ℕ) → at rs.now i < 4 ^ qubits) }
-    ensures { (length gs.new ≡ natives) × Odds t rs.now 0 m gs.new }
+// The same for each rotation, in gs: a loop of its own, since it takes four at once. By index: of what a zip over `iter_mut`
+// writes a proof knows nothing.
+fn odds(t: u32, r: &Rotations, gs: &mut [u32; 540])
+    ensures { (length gs.new ≡ natives) × Odds t r.now.strings 0 r.now.count gs.new }
 {
-    let mut i: usize = 0;
-    while i < m {
-        gs[i] = odd(t, rs[i]);
-        i += 1;
+    for i in 0..r.count {
+        gs[i] = odd(t, r.strings[i]);
     }
 }
 
-// The strings to which one rotation moves p, in front of xs, with the rotations' numbers in gs. The answer is their
-// count. Every rotation is stored, and the next takes its place where it commutes: a branch would be a coin toss.
-pub fn gather_unchecked(
-    p: u32,
-    rs: &[u32; 540],
-    ns: &[u32; 540],
-    m: usize,
-    xs: &mut [u32; 540],
-    gs: &mut [u32; 540],
-) -> usize
-    requires { (p < 4 ^ qubits) × Scratch xs.old gs.old × Rotations qubits rs.now ns.now m }
-    ensures { Gathered qubits p rs.now ns.now m xs.new gs.new result }
-{
-    odds(transposed(p), rs, m, gs);
-    let mut k: usize = 0;
-    let mut i: usize = 0;
-    while i < m {
-        let moves = gs[i] as usize;
-        xs[k] = p ^ rs[i];
-        gs[k] = ns[i];
-        k += moves;
-        i += 1;
+impl Moved {
+    // The strings to which one rotation moves p. Every rotation is stored, and the next takes its place where it commutes:
+    // a branch would be a coin toss. By index: what is read at i is written over at k.
+    pub fn gather_unchecked(&mut self, p: u32, r: &Rotations)
+        requires { p < 4 ^ qubits }
+        ensures { Gathered qubits p r.now.strings r.now.natives r.now.count self.new.strings self.new.natives self.new.count }
+    {
+        odds(transposed(p), r, &mut self.natives);
+        let mut k: usize = 0;
+        for i in 0..r.count {
+            let moves = self.natives[i] as usize;
+            self.strings[k] = p ^ r.strings[i];
+            self.natives[k] = r.natives[i];
+            k += moves;
+        }
+        self.count = k;
     }
-    k
 }

@@ -1,5 +1,6 @@
 -- A native measurement and its number: each gives the other, and the numbers follow the order of the original's loops. By the digits of
 -- the number, and by computing the loops. Assumes nothing.
+use Rattle.std.specs.Prelude.{Option, Some, None, Ok, Err}
 use mathlib.Core.Path.{◌≡◌, refl, sym, ap, ap₂, ◌∙◌}
 use mathlib.Core.Bool.{Bool, true, false, cond, ◌&&◌}
 use mathlib.Core.List.{flat_map}
@@ -9,19 +10,14 @@ use lib.Dec.{ltb}
 use Rattle.bicycle_common.specs.declared.Pauli.{Pauli}
 use Rattle.bicycle_common.specs.declared.Pauli.TheVariants.{I, X, Z, Y}
 use Rattle.bicycle_common.specs.declared.TwoBases.{TwoBases}
-use Rattle.bicycle_common.specs.declared.TwoBasesAnswer.{TwoBasesAnswer}
-use Rattle.bicycle_common.specs.declared.TwoBasesAnswer.TheVariants.{Is, BothIdentity}
 use Rattle.bicycle_common.specs.Ranges.{list_from, listed}
 use Rattle.bicycle_common.specs.Letters.{rank, is_i, bases_of}
 use Rattle.bicycle_common.specs.declared.AutomorphismData.{AutomorphismData}
 use Rattle.bicycle_common.specs.declared.Refusal.{Refusal}
 use Rattle.bicycle_common.specs.declared.Refusal.TheVariants.{NativeRange}
-use Rattle.bicycle_common.specs.declared.BicycleISA.TheVariants.{Automorphism, Measure}
-use Rattle.bicycle_common.specs.Automorphisms.{of_pair, inverse}
+use Rattle.bicycle_common.specs.Automorphisms.{of_pair}
 use Rattle.native_measurement.specs.declared.NativeMeasurement.{NativeMeasurement}
-use Rattle.native_measurement.specs.declared.NativeAnswer.TheVariants.{Is as NativeIs, Refused as NoNative}
-use Rattle.native_measurement.specs.declared.ImplementationAnswer.TheVariants.{Is as Instructions, Refused as NoInstructions}
-use Rattle.native_measurement.specs.Answers.{native_at, implementation_at}
+use Rattle.native_measurement.specs.Answers.{native_at}
 use Rattle.native_measurement.specs.Natives.{natives, of_rank, native_of, pair_number, number_of, all_bases, all}
 
 -- ---- places of letters
@@ -32,9 +28,6 @@ rank_lt I = omega arith
 rank_lt X = omega arith
 rank_lt Z = omega arith
 rank_lt Y = omega arith
-
-pub place_lt : {r : ℕ} (l : Pauli) → r ≡ rank l → r < 4
-place_lt l e = rw e (rank_lt l)
 
 pub pair_lt : {k : ℕ} (b : TwoBases) → k ≡ pair_number b → k < 15
 pair_lt b e = omega (arith, rank_lt b.p1, rank_lt b.p7)
@@ -134,62 +127,55 @@ native_made p q x y e =
 -- ---- two bases, as their constructor answers them
 
 module _ (p q : Pauli) where
-  abbrev answer : Bool → TwoBasesAnswer
-  answer t = cond t BothIdentity (Is (record { p1 = p; p7 = q }))
+  abbrev answer : Bool → Option TwoBases
+  answer t = cond t None (Some (record { p1 = p; p7 = q }))
 
-  bases_by : (t : Bool) (b : TwoBases) → answer t ≡ Is b → (t ≡ false) × (record { p1 = p; p7 = q } ≡ b)
-  bases_by true b e = let z : BothIdentity ≡ Is b = e in (cc, cc)
-  bases_by false b e = let z : Is (record { p1 = p; p7 = q }) ≡ Is b = e in (refl, cc)
+  bases_by : (t : Bool) (b : TwoBases) → answer t ≡ Some b → (t ≡ false) × (record { p1 = p; p7 = q } ≡ b)
+  bases_by true b e = let z : None ≡ Some b = e in (cc, cc)
+  bases_by false b e = let z : Some (record { p1 = p; p7 = q }) ≡ Some b = e in (refl, cc)
 
-  bases : (b : TwoBases) → bases_of p q ≡ Is b → ((is_i p && is_i q) ≡ false) × (record { p1 = p; p7 = q } ≡ b)
+  bases : (b : TwoBases) → bases_of p q ≡ Some b → ((is_i p && is_i q) ≡ false) × (record { p1 = p; p7 = q } ≡ b)
   bases b e = bases_by (is_i p && is_i q) b e
 
-  both_by : (t : Bool) → answer t ≡ BothIdentity → t ≡ true
+  both_by : (t : Bool) → answer t ≡ None → t ≡ true
   both_by true e = refl
   both_by false e = cc
 
 -- the letters of pair k + 1 are not both the identity
-pub pair_bases : (n : ℕ) (p q : Pauli) → p ≡ of_rank ((n % 15 + 1) / 4) → q ≡ of_rank ((n % 15 + 1) % 4) → bases_of p q ≡ BothIdentity → ⊥
+pub pair_bases : (n : ℕ) (p q : Pauli) → p ≡ of_rank ((n % 15 + 1) / 4) → q ≡ of_rank ((n % 15 + 1) % 4) → bases_of p q ≡ None → ⊥
 pair_bases n p q ep eq e =
     let a : rank p ≡ (n % 15 + 1) / 4 = ap rank ep ∙ rank_letter _ (omega arith) in
     let b : rank q ≡ (n % 15 + 1) % 4 = ap rank eq ∙ rank_letter _ (omega arith) in
     let z = pair_zero p q (both_by p q (is_i p && is_i q) e) in
     omega arith
 
-pub native_bases : (n : ℕ) (p q : Pauli) (b : TwoBases) → p ≡ of_rank ((n % 15 + 1) / 4) → q ≡ of_rank ((n % 15 + 1) % 4) → bases_of p q ≡ Is b
+pub native_bases : (n : ℕ) (p q : Pauli) (b : TwoBases) → p ≡ of_rank ((n % 15 + 1) / 4) → q ≡ of_rank ((n % 15 + 1) % 4) → bases_of p q ≡ Some b
     → (a : AutomorphismData) → a ≡ of_pair (n / 15 / 6) (n / 15 % 6) → record { logical = b; automorphism = a } ≡ native_of n
 unfolding native_of
 native_bases n p q b ep eq e a ea = rw (← (bases p q b e).1, ep, eq, ea)
 
 -- whatever the constructors of two bases and of an automorphism give
-pub native_number : (p q : Pauli) (x y : ℕ) (b : TwoBases) → bases_of p q ≡ Is b
+pub native_number : (p q : Pauli) (x y : ℕ) (b : TwoBases) → bases_of p q ≡ Some b
     → native_of (number_of (record { logical = b; automorphism = of_pair x y })) ≡ record { logical = b; automorphism = of_pair x y }
 native_number p q x y b e = let r = bases p q b e in rw (← r.1) (native_made p q x y r.0)
 
 -- ---- what the calls answer
 
-none_by : (n : ℕ) (r : Refusal) (t : Bool) → cond t (NativeIs (native_of n)) (NoNative NativeRange) ≡ NoNative r → t ≡ false
+none_by : (n : ℕ) (r : Refusal) (t : Bool) → cond t (Ok (native_of n)) (Err NativeRange) ≡ Err r → t ≡ false
 none_by n r true e = cc
 none_by n r false e = refl
 
-some_by : (n : ℕ) (m : NativeMeasurement) (t : Bool) → cond t (NativeIs (native_of n)) (NoNative NativeRange) ≡ NativeIs m
+some_by : (n : ℕ) (m : NativeMeasurement) (t : Bool) → cond t (Ok (native_of n)) (Err NativeRange) ≡ Ok m
     → (t ≡ true) × (native_of n ≡ m)
 some_by n m true e = (refl, cc)
 some_by n m false e = (cc, cc)
 
 -- what an answer tells of the number
-pub native_none : (n : ℕ) (r : Refusal) → native_at n ≡ NoNative r → ltb n natives ≡ false
+pub native_none : (n : ℕ) (r : Refusal) → native_at n ≡ Err r → ltb n natives ≡ false
 native_none n r e = none_by n r (ltb n natives) e
 
-pub native_some : (n : ℕ) (m : NativeMeasurement) → native_at n ≡ NativeIs m → (ltb n natives ≡ true) × (native_of n ≡ m)
+pub native_some : (n : ℕ) (m : NativeMeasurement) → native_at n ≡ Ok m → (ltb n natives ≡ true) × (native_of n ≡ m)
 native_some n m e = some_by n m (ltb n natives) e
-
-pub no_implementation : (n : ℕ) (r : Refusal) → native_at n ≡ NoNative r → NoInstructions NativeRange ≡ implementation_at n
-no_implementation n r e = rw (native_none n r e)
-
-pub implementation_of : (n : ℕ) (m : NativeMeasurement) → native_at n ≡ NativeIs m → (i : AutomorphismData) → i ≡ inverse m.automorphism
-    → Instructions (Automorphism m.automorphism) (Measure m.logical) (Automorphism i) ≡ implementation_at n
-implementation_of n m e i ei = let p = native_some n m e in rw (ei, p.0, p.1)
 
 -- ---- all natives, in the order of the original's loops
 

@@ -1,11 +1,10 @@
 -- The native measurements and their numbers, n = 15 * (6 * x + y) + k. Assumes nothing.
+use Rattle.std.specs.Prelude.{Option, Some, None}
 use mathlib.Core.List.{List, [], ◌∷◌, map, flat_map}
 use Rattle.std.specs.Prelude.{ℕ, ◌+◌, ◌-◌, ◌*◌, ◌/◌, ◌%◌}
 use Rattle.bicycle_common.specs.declared.Pauli.{Pauli}
 use Rattle.bicycle_common.specs.declared.Pauli.TheVariants.{I, X, Z, Y}
 use Rattle.bicycle_common.specs.declared.TwoBases.{TwoBases}
-use Rattle.bicycle_common.specs.declared.TwoBasesAnswer.{TwoBasesAnswer}
-use Rattle.bicycle_common.specs.declared.TwoBasesAnswer.TheVariants.{Is, BothIdentity}
 use Rattle.bicycle_common.specs.declared.AutomorphismData.{AutomorphismData}
 use Rattle.bicycle_common.specs.Letters.{letter, rank, bases_of}
 use Rattle.bicycle_common.specs.Automorphisms.{component, of_pair}
@@ -48,9 +47,9 @@ in_order = I ∷ X ∷ Z ∷ Y ∷ []
 abbrev pub components : List ℕ
 components = 0 ∷ 1 ∷ 2 ∷ 3 ∷ 4 ∷ 5 ∷ []
 
-abbrev pub pushed : TwoBasesAnswer → List TwoBases
-pushed (Is b) = b ∷ []
-pushed BothIdentity = []
+abbrev pub pushed : Option TwoBases → List TwoBases
+pushed (Some b) = b ∷ []
+pushed None = []
 
 unfoldable pub all_bases : List TwoBases
 all_bases = flat_map (λ (p1 : Pauli). flat_map (λ (p7 : Pauli). pushed (bases_of p1 p7)) in_order) in_order

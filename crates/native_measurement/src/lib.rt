@@ -2,8 +2,8 @@
 //
 // Follows crates/bicycle_cliffords/src/native_measurement.rs of the Bicycle Architecture Compiler. Changed: written anew
 // in Rattle, with contracts; the iterators over all natives became numbers, 0 to 539, in the order in which the original
-// lists them, and the list itself is a definition; methods take `self` by value. `NativeNumber`, `from_number` and
-// `number` are added; the sampling and `Display` are left out.
+// lists them, and the list itself is a definition; methods take `self` by value. `NativeNumber` and its conversions are
+// added; the sampling and `Display` are left out.
 //
 // Copyright contributors to the Bicycle Architecture Compiler project. Licensed under the Apache License, Version 2.0
 // (see NOTICE).
@@ -14,13 +14,14 @@ ghost use Rattle.bicycle_common.specs.Letters.{rank};
 ghost use Rattle.native_measurement.specs.Natives.{of_rank, pair_number, number_of};
 ghost use Rattle.native_measurement.specs.Answers.{native_at, implementation_at};
 
-use bicycle_common::{AutomorphismData, BicycleISA, Pauli, Refusal, TwoBases, TwoBasesAnswer};
+use bicycle_common::{AutomorphismData, BicycleISA, Pauli, Refusal, TwoBases};
 
 // How many natives there are.
 pub const NATIVES: u16 = 540;
 
-// The number of a native measurement. It is no string: a string is a `PauliString`.
-#[derive(Clone, Copy)]
+// The number of a native measurement. It is no string: a string is a `PauliString`. Any number may stand in it: each public
+// call refuses one that is no native's (11).
+#[derive(Clone, Copy, PartialEq, Eq)]
 pub struct NativeNumber(pub u16);
 
 // A measurement that can be performed on the code by conjugating one base measurement with automorphisms.
@@ -30,21 +31,7 @@ pub struct NativeMeasurement {
     pub automorphism: AutomorphismData,
 }
 
-// A native measurement, or the refusal.
-#[derive(Clone, Copy)]
-pub enum NativeAnswer {
-    Is(NativeMeasurement),
-    Refused(Refusal),
-}
-
-// The three instructions of a native measurement in their order, or the refusal.
-#[derive(Clone, Copy)]
-pub enum ImplementationAnswer {
-    Is(BicycleISA, BicycleISA, BicycleISA),
-    Refused(Refusal),
-}
-
-// The letter at a place of the order I, X, Z, Y.
+// The letter at a place of the order I, X, Z, Y. Each way is needed once, so `From` would say no more.
 fn of_rank(place: u16) -> Pauli
     requires { place < 4 }
     ensures { result ≡ of_rank place }
@@ -58,15 +45,11 @@ fn of_rank(place: u16) -> Pauli
 }
 
 // The place of a letter in that order.
+#[tactic(auto, unfolding(bicycle_common::specs::Letters::rank))]
 fn rank(p: Pauli) -> u16
-    ensures { result ≡ rank p }
+    ensures { (result ≡ rank p) × (result < 4) }
 {
-    match p {
-        Pauli::I => 0,
-        Pauli::X => 1,
-        Pauli::Z => 2,
-        Pauli::Y => 3,
-    }
+    u16::from(p.has_x()) + 2 * u16::from(p.has_z())
 }
 
 // The number of two bases among the pairs of letters, which are counted from (I,X) on.
@@ -75,60 +58,56 @@ fn pair_number(bases: TwoBases) -> u16
 {
     let pair = 4 * rank(bases.get_basis_1()) + rank(bases.get_basis_7());
     // No two bases are (I,I)
-    if pair == 0 {
-        return 0;
-    }
-    pair - 1
+    pair.saturating_sub(1)
 }
 
-impl NativeMeasurement {
+impl TryFrom<NativeNumber> for NativeMeasurement {
+    type Error = Refusal;
+
+    ghost try_from_gives = { λ n answer. answer ≡ native_at n.0 };
+
     // The native measurement of a number, or 11.
-    pub fn from_number(n: NativeNumber) -> NativeAnswer
-        ensures { result ≡ native_at n.0 }
-    {
+    fn try_from(n: NativeNumber) -> Result<Self, Refusal> {
         let i = n.0;
         if i < NATIVES {
             // The pairs of letters are counted from (I,X) on
             let pair = i % 15 + 1;
             let p1 = of_rank(pair / 4);
             let p7 = of_rank(pair % 4);
-            let TwoBasesAnswer::Is(logical) = TwoBases::new(p1, p7) else {
-                return NativeAnswer::Refused(Refusal::NativeRange);
-            };
+            let logical = TwoBases::new(p1, p7).unwrap();
             let a = (i / 15) as u8;
             let automorphism = AutomorphismData::new(a / 6, a % 6);
-            return NativeAnswer::Is(NativeMeasurement {
+            Ok(NativeMeasurement {
                 logical,
                 automorphism,
-            });
+            })
+        } else {
+            Err(Refusal::NativeRange)
         }
-        NativeAnswer::Refused(Refusal::NativeRange)
     }
+}
+
+impl From<NativeMeasurement> for NativeNumber {
+    ghost from_gives = { λ native n. n ≡ record { 0 = number_of native } };
 
     // The number of the native measurement.
-    pub fn number(self) -> NativeNumber
-        ensures { result ≡ record { 0 = number_of self } }
-    {
-        let logical = self.logical;
-        let automorphism = self.automorphism;
-        let a = 6 * automorphism.get_x() + automorphism.get_y();
-        NativeNumber(15 * a as u16 + pair_number(logical))
+    #[tactic(auto, unfolding(crate::specs::Natives::number_of))]
+    fn from(native: NativeMeasurement) -> NativeNumber {
+        let a = 6 * native.automorphism.get_x() + native.automorphism.get_y();
+        NativeNumber(15 * u16::from(a) + pair_number(native.logical))
     }
 }
 
 // The instructions of a native measurement: its automorphism, the measurement, the inverse automorphism; or 11.
-pub fn implementation(n: NativeNumber) -> ImplementationAnswer
+pub fn implementation(n: NativeNumber) -> Result<[BicycleISA; 3], Refusal>
     ensures { result ≡ implementation_at n.0 }
 {
-    let NativeAnswer::Is(native) = NativeMeasurement::from_number(n) else {
-        return ImplementationAnswer::Refused(Refusal::NativeRange);
-    };
-    let logical = native.logical;
+    let native = NativeMeasurement::try_from(n)?;
     let automorphism = native.automorphism;
     let inverse = automorphism.inv();
-    ImplementationAnswer::Is(
+    Ok([
         BicycleISA::Automorphism(automorphism),
-        BicycleISA::Measure(logical),
+        BicycleISA::Measure(native.logical),
         BicycleISA::Automorphism(inverse),
-    )
+    ])
 }

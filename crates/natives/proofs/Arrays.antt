@@ -1,6 +1,6 @@
 -- The natives of a pair, as they are held: each string reads as it is defined and is a string, and the flags say which natives are kept.
 -- Assumes nothing.
-use mathlib.Core.Path.{◌≡◌, sym, ap, ◌∙◌}
+use mathlib.Core.Path.{◌≡◌, ap, ◌∙◌}
 use mathlib.Core.List.{List}
 use Prim.Native.Nat.{ℕ, ◌^◌, ◌≤◌, ◌<◌}
 use native.Mathlib.Omega.{arith}
@@ -14,8 +14,7 @@ use Rattle.native_measurement.specs.Natives.{natives}
 use Rattle.measurement.specs.Matrices.{side, Matrix, of_bytes}
 use Rattle.measurement.specs.Measures.{native_string, pair_string}
 use Rattle.measurement.proofs.Strings.{native_lt}
-use Rattle.natives.specs.declared.Natives.{Natives}
-use Rattle.natives.specs.Arrays.{at, strings, Held, flags, natives_of}
+use Rattle.natives.specs.Arrays.{at, strings, Held, flags}
 use Rattle.natives.proofs.Kept.{flags_same}
 
 -- a list of strings holds strings, and 0 behind them
@@ -42,16 +41,10 @@ module _ (mx my : Matrix) (l : List ℕ) (e : l ≡ strings mx my) where
 
 -- ---- strings and flags
 
-module _ (mx my : List ℕ) (r : Natives) (e : r ≡ natives_of mx my) where
-  same : r.strings ≡ strings (of_bytes side mx) (of_bytes side my)
-  same = ap (λ (s : Natives). s.strings) e
+module _ (mx my : List ℕ) (l : List ℕ) (e : l ≡ strings (of_bytes side mx) (of_bytes side my)) where
+  pub natives_at : (n : ℕ) → n < natives → at l n ≡ pair_string side mx my n
+  natives_at = strings_at (of_bytes side mx) (of_bytes side my) l e
 
-  pub natives_at : (n : ℕ) → n < natives → at r.strings n ≡ pair_string side mx my n
-  natives_at = strings_at (of_bytes side mx) (of_bytes side my) r.strings same
-
-  pub natives_held : Held qubits r.strings
-  natives_held = strings_held (of_bytes side mx) (of_bytes side my) r.strings same
-
-  pub natives_flagged : r.kept ≡ flags (at r.strings)
-  natives_flagged =
-      ap (λ (s : Natives). s.kept) e ∙ flags_same (pair_string side mx my) (at r.strings) (λ n h. sym (natives_at n h))
+  -- the flags read the strings alone
+  pub flags_of_strings : flags (at l) ≡ flags (pair_string side mx my)
+  flags_of_strings = flags_same (at l) (pair_string side mx my) natives_at

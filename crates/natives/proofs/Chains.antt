@@ -1,23 +1,21 @@
 -- Chained buckets find each native's next equal: the walk along a chain meets every greater native with the same string. And a count of 0 or
 -- 1 says where a number stands. Assumes nothing.
-use mathlib.Core.Bool.{true}
+use mathlib.Core.Bool.{Bool, true, cond}
 use mathlib.Core.List.{List}
 use mathlib.Core.Logic.{⊎_elim}
 use mathlib.Core.Path.{◌≡◌, refl, sym, ap, ◌∙◌, subst}
-use Prim.Native.Nat.{ℕ, zero, suc, ◌+◌, ◌-◌, ◌%◌, ◌<◌, ◌≤◌}
+use Prim.Native.Nat.{ℕ, ◌+◌, ◌%◌, ◌<◌, ◌≤◌}
 use native.Mathlib.Nat.{eq-or-lt_of_le}
 use native.Mathlib.Omega.{arith}
-use lib.ListN.{get_or, length, set, replicate, get_or-replicate}
-use lib.Dec.{eqb}
-use borrow.Author.Tests.{eqb-false, eq-eqb}
-use Rattle.bicycle_common.specs.Letters.{flag}
-use Rattle.bicycle_common.proofs.Ranges.{lt_or_ge, stored_at, sum_next, sum_le, sum_terms_zero}
-use Rattle.bicycle_common.specs.Ranges.{sum}
-use Rattle.bicycle_common.proofs.Letters.{flag_le, flag_none}
+use lib.ListN.{get_or, length, set, take, replicate, get_or-replicate}
+use Rattle.std.proofs.lemmas.List.{get_or-take, length-take}
+use Rattle.std.specs.List.{count_by}
+use Rattle.std.proofs.lemmas.List.Sums.{get_or-le-sum_by, sum_by_more_le}
+use Rattle.bicycle_common.proofs.Ranges.{lt_or_ge, stored_at}
 use Rattle.native_measurement.specs.Natives.{natives}
 use Rattle.natives.specs.Kept.{kept}
 use Rattle.natives.specs.Arrays.{at}
-use Rattle.natives.specs.Chains.{buckets, bucket, Next, Heads, occurrences}
+use Rattle.natives.specs.Chains.{buckets, bucket, Next, Heads}
 use Rattle.natives.proofs.Kept.{kept_complete}
 
 -- ---- the chains
@@ -73,49 +71,14 @@ heads_start f h l = subst (λ (x : ℕ). Next f h 540 x) (sym (get_or-replicate 
 
 -- ---- the count
 
-pub occurrences_none : (f : ℕ → ℕ) (v from : ℕ) → 0 ≡ occurrences f v from (from - from)
-unfolding sum
-occurrences_none f v from = let e : from - from ≡ 0 = omega arith in rw e
+-- p is true nowhere
+pub none_there : (p : ℕ → Bool) (l : List ℕ) → count_by p l ≡ 0 → (i : ℕ) → i < length l → p (at l i) ≡ true → ⊥
+none_there p l z i h t = omega (arith, z, rw t at (get_or-le-sum_by (λ (x : ℕ). cond (p x) 1 0) l i 0 h))
 
-pub occurrences_more : (f : ℕ → ℕ) (v from m : ℕ) → from ≤ m → occurrences f v from (m + 1 - from) ≡ occurrences f v from (m - from) + flag (eqb (f m) v)
-occurrences_more f v from m h =
-    let e : m + 1 - from ≡ m - from + 1 = omega arith in
-    let d : from + (m - from) ≡ m = omega arith in
-    rw e (sum_next (m - from) (λ (j : ℕ). flag (eqb (f (from + j)) v)) ∙ ap (λ (i : ℕ). occurrences f v from (m - from) + flag (eqb (f i) v)) d)
-
-pub occurrences_le : (f : ℕ → ℕ) (v from k : ℕ) → occurrences f v from k ≤ k
-occurrences_le f v from k = sum_le k _ (λ j h. flag_le (eqb (f (from + j)) v))
-
--- v stands nowhere
-pub none_there : (f : ℕ → ℕ) (v from to : ℕ) → occurrences f v from (to - from) ≡ 0 → (m : ℕ) → from ≤ m → m < to → f m ≡ v → ⊥
-none_there f v from to z m l h e =
-    let i : from + (m - from) ≡ m = omega arith in
-    eqb-false (f (from + (m - from))) v (flag_none _ (sum_terms_zero (to - from) (λ (j : ℕ). flag (eqb (f (from + j)) v)) z (m - from) (omega arith))) (ap f i ∙ e)
-
-one_place : (n : ℕ) (F : ℕ → ℕ) (i : ℕ) → i < n → F i ≡ 1 → 1 ≤ sum n F
-one_place n F i h e =
-    ⊎_elim
-    (λ (q : 0 ≡ sum n F). absurd (omega (arith, e, sum_terms_zero n F (sym q) i h)))
-    (λ (q : 0 < sum n F). q)
-    (eq-or-lt_of_le (omega arith))
-
-two_places : (n : ℕ) (F : ℕ → ℕ) (i j : ℕ) → i < j → j < n → F i ≡ 1 → F j ≡ 1 → 2 ≤ sum n F
-unfolding sum
-two_places zero F i j l h a b = absurd (omega arith)
-two_places (suc n) F i j l h a b =
-    ⊎_elim
-    (λ (q : j ≡ n). let c = one_place n F i (omega arith) a in let d : F n ≡ 1 = ap F (sym q) ∙ b in omega arith)
-    (λ (q : j < n). let c = two_places n F i j l q a b in omega arith)
-    (eq-or-lt_of_le (omega arith))
-
--- v stands at one place alone
-pub one_there : (f : ℕ → ℕ) (v from to : ℕ) → occurrences f v from (to - from) ≡ 1
-    → (i j : ℕ) → from ≤ i → i < j → j < to → f i ≡ v → f j ≡ v → ⊥
-one_there f v from to one i j l h hj ei ej =
-    let F : ℕ → ℕ = λ k. flag (eqb (f (from + k)) v) in
-    let pi : from + (i - from) ≡ i = omega arith in
-    let pj : from + (j - from) ≡ j = omega arith in
-    let ai : F (i - from) ≡ 1 = ap flag (eq-eqb (f (from + (i - from))) v (ap f pi ∙ ei)) in
-    let aj : F (j - from) ≡ 1 = ap flag (eq-eqb (f (from + (j - from))) v (ap f pj ∙ ej)) in
-    let two : 2 ≤ sum (to - from) F = two_places (to - from) F (i - from) (j - from) (omega arith) (omega arith) ai aj in
-    omega (arith, one, two)
+-- p is true at one place alone
+pub one_there : (p : ℕ → Bool) (l : List ℕ) → count_by p l ≡ 1 → (i j : ℕ) → i < j → j < length l → p (at l i) ≡ true → p (at l j) ≡ true → ⊥
+one_there p l z i j h hj a b =
+    let f : ℕ → ℕ = λ x. cond (p x) 1 0 in
+    let first = rw (get_or-take j l i 0 h, a) at (get_or-le-sum_by f (take j l) i 0 (omega (arith, length-take j l))) in
+    let second = rw b at (sum_by_more_le f l j 0 hj) in
+    omega (arith, z, first, second)

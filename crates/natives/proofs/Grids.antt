@@ -1,24 +1,26 @@
 -- The grids of packed rows and columns give the natives' strings: cell (x, y) of the rows is the first row of A(x,y), cell (y, x) of the
 -- columns is its first column. Assumes nothing.
-use mathlib.Core.List.{List, [], ◌∷◌}
+use mathlib.Core.List.{List}
+use mathlib.Core.Bool.{true}
 use mathlib.Core.Path.{◌≡◌, refl, ap, ap₂, ◌∙◌}
-use Prim.Native.Nat.{ℕ, ◌+◌, ◌-◌, ◌*◌, ◌/◌, ◌%◌, ◌^◌, ◌<◌, ◌≤◌}
+use Prim.Native.Nat.{ℕ, ◌+◌, ◌-◌, ◌*◌, ◌/◌, ◌%◌, ◌^◌, ◌<◌}
 use native.Mathlib.Omega.{arith}
 use lib.ListN.{length}
 use Rattle.bicycle_common.specs.declared.AutomorphismData.{AutomorphismData}
 use Rattle.bicycle_common.specs.Letters.{x_of, z_of}
 use Rattle.bicycle_common.specs.Automorphisms.{component, of_pair, opposite, inverse}
-use Rattle.bicycle_common.specs.Ranges.{sum, list_from, listed}
+use Rattle.bicycle_common.specs.Ranges.{sum}
 use Rattle.bicycle_common.proofs.Letters.{digit_x, digit_z}
 use Rattle.pauli_string.specs.Strings.{bit}
 use Rattle.native_measurement.specs.Natives.{natives, of_rank, native_of, bases_at}
-use Rattle.measurement.specs.Matrices.{side, Matrix, of_bytes, one, mul, pow, Binary, Same}
+use Rattle.measurement.specs.Matrices.{side, Matrix, of_bytes, is_bytes, one, mul, pow, Binary, Same}
 use Rattle.measurement.specs.Measures.{action, packed, placed, placed_by, measured, native_string}
 use Rattle.measurement.proofs.Matrices.{mul_binary, one_binary, pow_binary, mul_same, action_same, packed_same, packed_lt}
 use Rattle.measurement.proofs.Letters.{bit_packed}
+use Rattle.measurement.proofs.Strings.{bytes_good}
 use Rattle.measurement.proofs.Algebra.{one_left, product_turned}
 use Rattle.natives.specs.Arrays.{at}
-use Rattle.natives.specs.Packed.{iterated, of_row_words, of_column_words, Words, word_at, Lines, cell, Cells, SmallCells, word_string, grid_string}
+use Rattle.natives.specs.Packed.{iterated, of_row_words, of_column_words, Words, word_at, Lines, cell, GridOf, SmallCells, word_string, grid_string}
 use Rattle.natives.proofs.Words.{bit_le, iterated_lt, row_iterated}
 
 -- ---- cells are words
@@ -27,7 +29,7 @@ pub cell_lt : (p q : List ℕ) → Words p → Words q → (i j : ℕ) → cell 
 unfolding cell
 cell_lt p q hp hq i j = iterated_lt 6 (at q) _ hq (iterated_lt 6 (at p) 1 hp (omega arith) i) j
 
-pub cells_small : (p q : List ℕ) (g : List (List ℕ)) → Words p → Words q → Cells p q g → SmallCells g
+pub cells_small : (p q : List ℕ) (g : List (List ℕ)) → Words p → Words q → GridOf p q g → SmallCells g
 cells_small p q g hp hq h i j hi hj = rw (h i j hi hj) (cell_lt p q hp hq i j)
 
 -- ---- cells are rows and columns
@@ -118,7 +120,7 @@ module _ (a b : Matrix) (rx ry cx cy : List ℕ) (w : WordsOf a b rx ry cx cy) w
       (row_of t _ _ (first_component (n / 15) (omega arith)) (second_component (n / 15)))
 
   -- the strings of the grids are the natives' strings
-  pub grid_native : (cs rs : List (List ℕ)) → Cells cy cx cs → Cells rx ry rs → (n : ℕ) → n < natives → grid_string cs rs n ≡ native_string side a b n
+  pub grid_native : (cs rs : List (List ℕ)) → GridOf cy cx cs → GridOf rx ry rs → (n : ℕ) → n < natives → grid_string cs rs n ≡ native_string side a b n
   unfolding grid_string
   grid_native cs rs hc hr n h =
       ap₂ (λ (u v : ℕ). word_string u v (n % 15))
@@ -128,26 +130,8 @@ module _ (a b : Matrix) (rx ry cx cy : List ℕ) (w : WordsOf a b rx ry cx cy) w
 
 -- ---- words of bytes, and the digits of two letters
 
-pub word_bytes : (line step : ℕ) (m : List ℕ) (k : ℕ)
-    → (at m (line * k) ∷ at m (line * k + step) ∷ at m (line * k + 2 * step) ∷ at m (line * k + 3 * step) ∷ at m (line * k + 4 * step) ∷ at m (line * k + 5 * step) ∷ [])
-    ≡ listed (λ (j : ℕ). at m (line * k + step * j)) side
-unfolding list_from
-word_bytes line step m k =
-    let e0 : line * k + step * 0 ≡ line * k = omega arith in
-    let e1 : line * k + step * 1 ≡ line * k + step = omega arith in
-    let e2 : line * k + step * 2 ≡ line * k + 2 * step = omega arith in
-    let e3 : line * k + step * 3 ≡ line * k + 3 * step = omega arith in
-    let e4 : line * k + step * 4 ≡ line * k + 4 * step = omega arith in
-    let e5 : line * k + step * 5 ≡ line * k + 5 * step = omega arith in
-    rw (e0, e1, e2, e3, e4, e5)
-
--- words are rows, or columns, of a matrix of which f k gives the numbers of word k
-module _ (f : ℕ → ℕ → ℕ) (h : (k j : ℕ) → k < 6 → j < 6 → f k j ≤ 1) (r : List ℕ) (e : (k : ℕ) → k < 6 → at r k ≡ packed 6 (f k)) where
-  pub words_lt : Words r
-  words_lt k l = rw (e k l) (packed_lt 6 (f k) (λ j q. h k j l q))
-
-  pub words_bit : (k j : ℕ) → k < 6 → j < 6 → bit (at r k) j ≡ f k j
-  words_bit k j l q = ap (λ (n : ℕ). bit n j) (e k l) ∙ bit_packed 6 (f k) (λ i p. h k i l p) j q
+pub place_in : (line step : ℕ) (m : List ℕ) (k j : ℕ) → Lines line step m → k < side → j < side → line * k + step * j < length m
+place_in line step m k j h hk hj = h.there k j hk hj
 
 row_place : (k j : ℕ) → 6 * k + 1 * j ≡ 6 * k + j
 row_place k j = omega arith
@@ -156,24 +140,33 @@ column_place : (k j : ℕ) → 1 * k + 6 * j ≡ 6 * j + k
 column_place k j = omega arith
 
 module _ (m : List ℕ) (n : length m ≡ 36) (b : Binary 6 (of_bytes 6 m)) where
-  pub row_lines : Lines 6 1 m
-  row_lines k j hk hj = (omega arith, rw (row_place k j) (b k j hk hj))
+  row_lines : Lines 6 1 m
+  row_lines = record { there = λ k j hk hj. omega arith; binary = λ k j hk hj. rw (row_place k j) (b k j hk hj) }
 
-  pub column_lines : Lines 1 6 m
-  column_lines k j hk hj = (omega arith, rw (column_place k j) (b j k hj hk))
+  column_lines : Lines 1 6 m
+  column_lines = record { there = λ k j hk hj. omega arith; binary = λ k j hk hj. rw (column_place k j) (b j k hj hk) }
 
-  module _ (r : List ℕ) where
-    pub rows_are : ((k : ℕ) → k < 6 → at r k ≡ word_at 6 1 m k) → Words r × Same 6 (of_row_words r) (of_bytes 6 m)
-    rows_are e =
-        let f : (k : ℕ) → k < 6 → at r k ≡ packed 6 (of_bytes 6 m k) = λ k l. e k l ∙ packed_same 6 (λ j q. ap (at m) (row_place k j)) in
-        (words_lt (of_bytes 6 m) b r f, words_bit (of_bytes 6 m) b r f)
+pub bytes_rows : (m : List ℕ) → is_bytes 6 m ≡ true → Lines 6 1 m
+bytes_rows m t = let g = bytes_good 6 m t in row_lines m g.0 g.1
 
-    pub columns_are : ((k : ℕ) → k < 6 → at r k ≡ word_at 1 6 m k) → Words r × Same 6 (of_column_words r) (of_bytes 6 m)
-    columns_are e =
-        let g : ℕ → ℕ → ℕ = λ k j. of_bytes 6 m j k in
-        let h : (k j : ℕ) → k < 6 → j < 6 → g k j ≤ 1 = λ k j l q. b j k q l in
-        let f : (k : ℕ) → k < 6 → at r k ≡ packed 6 (g k) = λ k l. e k l ∙ packed_same 6 (λ j q. ap (at m) (column_place k j)) in
-        (words_lt g h r f, λ i k hi hk. words_bit g h r f k i hk hi)
+pub bytes_columns : (m : List ℕ) → is_bytes 6 m ≡ true → Lines 1 6 m
+bytes_columns m t = let g = bytes_good 6 m t in column_lines m g.0 g.1
+
+-- words of bytes are words, and their digits are the bytes
+module _ (line step : ℕ) (m : List ℕ) (h : Lines line step m) (r : List ℕ) (e : (k : ℕ) → k < 6 → at r k ≡ word_at line step m k) where
+  pub words_lt : Words r
+  words_lt k l = rw (e k l) (packed_lt 6 _ (λ j q. h.binary k j l q))
+
+  pub words_bit : (k j : ℕ) → k < 6 → j < 6 → bit (at r k) j ≡ at m (line * k + step * j)
+  words_bit k j l q = ap (λ (n : ℕ). bit n j) (e k l) ∙ bit_packed 6 (λ i. at m (line * k + step * i)) (λ i p. h.binary k i l p) j q
+
+-- the rows and the columns of a matrix of bytes
+module _ (m : List ℕ) (r : List ℕ) where
+  pub rows_are : Lines 6 1 m → ((k : ℕ) → k < 6 → at r k ≡ word_at 6 1 m k) → Same 6 (of_row_words r) (of_bytes 6 m)
+  rows_are h e i k hi hk = words_bit 6 1 m h r e i k hi hk ∙ ap (at m) (row_place i k)
+
+  pub columns_are : Lines 1 6 m → ((k : ℕ) → k < 6 → at r k ≡ word_at 1 6 m k) → Same 6 (of_column_words r) (of_bytes 6 m)
+  columns_are h e i k hi hk = words_bit 1 6 m h r e k i hk hi ∙ ap (at m) (column_place k i)
 
 letter_digits : (r : ℕ) → r < 4 → (x_of (of_rank r) ≡ r % 2) × (z_of (of_rank r) ≡ r / 2)
 letter_digits r h = (digit_x (r % 2) (r / 2) (omega arith) (omega arith), digit_z (r % 2) (r / 2) (omega arith) (omega arith))

@@ -1,20 +1,19 @@
 -- The test of a kept native says what it means, and of the natives with one string exactly one is kept: the greatest. By a search from the
 -- top. Assumes nothing.
 use mathlib.Core.Bool.{Bool, true, false, not, ◌&&◌, cond}
-use mathlib.Core.List.{List}
 use mathlib.Core.Logic.{⊎_elim}
 use mathlib.Core.Path.{◌≡◌, refl, sym, ap, ap₂, subst, ◌∙◌}
-use Prim.Native.Nat.{ℕ, zero, suc, ◌-◌, ◌<◌, ◌≤◌}
+use Prim.Native.Nat.{ℕ, zero, suc, ◌<◌, ◌≤◌}
 use native.Mathlib.Nat.{eq-or-lt_of_le, le_antisymm}
 use native.Mathlib.Omega.{arith, by_contra}
 use lib.Dec.{T, eqb, ltb}
 use borrow.Author.Tests.{lt-ltb, eq-eqb, ne_eqb, ltb-true, eqb-true, eqb-false}
 use Rattle.bicycle_common.proofs.Ranges.{all_true, all_false, all_same, length_from, listed_at, listed_all}
 use Rattle.native_measurement.specs.Natives.{natives}
-use Rattle.measurement.specs.Matrices.{side, of_bytes}
-use Rattle.measurement.specs.Measures.{pair_string}
-use Rattle.natives.specs.Kept.{beats, kept_by, kept, Kept, kept_below, kept_for, Keeper}
-use Rattle.natives.specs.Arrays.{at, strings, flags, natives_of}
+use Rattle.std.proofs.Common.{Option, None, Some}
+use Rattle.std.specs.Option.{unwrap_or}
+use Rattle.natives.specs.Kept.{beats, kept_by, kept, Kept, kept_below, LastWith, kept_for, Keeper}
+use Rattle.natives.specs.Arrays.{flags}
 
 -- ---- the test
 
@@ -100,30 +99,22 @@ kept_below_string f x (suc k) h = go (λ q. kept_below_string f x k q) (eqb (f k
 pub kept_for_string : (f : ℕ → ℕ) (x : ℕ) → kept_for f x < natives → f (kept_for f x) ≡ x
 kept_for_string f x h = kept_below_string f x natives h
 
--- one step of the search
-pub kept_below_here : (f : ℕ → ℕ) (x k : ℕ) → 0 < k → f (k - 1) ≡ x → kept_below f x k ≡ k - 1
+-- what the search finds: nothing where no string is x, and else the last place of x
+kept_below_none : (f : ℕ → ℕ) (x k : ℕ) → ((m : ℕ) → m < k → f m ≡ x → ⊥) → kept_below f x k ≡ natives
 unfolding kept_below
-kept_below_here f x zero h e = absurd (omega arith)
-kept_below_here f x (suc k) h e =
-    let z : suc k - 1 ≡ k = omega arith in
-    ap (λ (b : Bool). cond b k (kept_below f x k)) (eq-eqb (f k) x (ap f (sym z) ∙ e)) ∙ sym z
+kept_below_none f x zero h = refl
+kept_below_none f x (suc k) h =
+    rw (ne_eqb (f k) x (h k (omega arith))) (kept_below_none f x k (λ m l. h m (omega arith)))
 
-pub kept_below_next : (f : ℕ → ℕ) (x k : ℕ) → 0 < k → (f (k - 1) ≡ x → ⊥) → kept_below f x k ≡ kept_below f x (k - 1)
+kept_below_last : (f : ℕ → ℕ) (x k i : ℕ) → i < k → f i ≡ x → ((m : ℕ) → i < m → m < k → f m ≡ x → ⊥) → kept_below f x k ≡ i
 unfolding kept_below
-kept_below_next f x zero h e = absurd (omega arith)
-kept_below_next f x (suc k) h e =
-    let z : suc k - 1 ≡ k = omega arith in
-    ap (λ (b : Bool). cond b k (kept_below f x k)) (ne_eqb (f k) x (λ d. e (ap f z ∙ d))) ∙ ap (kept_below f x) (sym z)
+kept_below_last f x zero i l e h = absurd (omega arith)
+kept_below_last f x (suc k) i l e h =
+    ⊎_elim
+    (λ (q : i ≡ k). let d : f k ≡ x = ap f (sym q) ∙ e in rw (eq-eqb (f k) x d) (sym q))
+    (λ (q : i < k). rw (ne_eqb (f k) x (h k q (omega arith))) (kept_below_last f x k i q e (λ m a b. h m a (omega arith))))
+    (eq-or-lt_of_le (omega arith))
 
-pub kept_below_none : (f : ℕ → ℕ) (x : ℕ) → kept_below f x 0 ≡ natives
-unfolding kept_below
-kept_below_none f x = refl
-
--- ---- the struct
-
-pub natives_of_law : (x y hx hy s : List ℕ) (k : List Bool) → hx ≡ x → hy ≡ y → s ≡ strings (of_bytes side x) (of_bytes side y) → k ≡ flags (at s)
-    → record { pair = record { mx = hx; my = hy }; strings = s; kept = k } ≡ natives_of x y
-natives_of_law x y hx hy s k ex ey es ek =
-    let f = pair_string side x y in
-    let e : k ≡ flags f = ek ∙ flags_same (at s) f (λ m h. ap (λ (l : List ℕ). at l m) es ∙ listed_at f 0 natives m h) in
-    rw (ex, ey, es, e)
+pub last_kept : (f : ℕ → ℕ) (x : ℕ) (o : Option ℕ) → LastWith f x o → unwrap_or o natives ≡ kept_for f x
+last_kept f x None h = sym (kept_below_none f x natives h)
+last_kept f x (Some k) h = sym (kept_below_last f x natives k h.0 h.1 h.2)

@@ -4,4 +4,4 @@ pub mod Arrays
 pub mod Words
 pub mod Grids
 pub mod Chains
-pub mod Cells
+pub mod Shown

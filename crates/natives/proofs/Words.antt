@@ -121,18 +121,18 @@ abbrev tail : (ℕ → ℕ) → ℕ → ℕ
 tail R k = R (3 + k)
 
 -- the eight sums, written out
-pub eight : (R : ℕ → ℕ) (a b c : ℕ) → R 0 ≡ a → R 1 ≡ b → R 2 ≡ c → (j : ℕ) → j < 8
-    → at (0 ∷ a ∷ b ∷ bit_xor a b ∷ c ∷ bit_xor a c ∷ bit_xor b c ∷ bit_xor (bit_xor a b) c ∷ []) j ≡ combined 3 R j
+pub eight : (a b c j : ℕ) → j < 8
+    → at (0 ∷ a ∷ b ∷ bit_xor a b ∷ c ∷ bit_xor a c ∷ bit_xor b c ∷ bit_xor (bit_xor a b) c ∷ []) j ≡ combined 3 (at (a ∷ b ∷ c ∷ [])) j
 unfolding combined xors bit
-eight R a b c ea eb ec zero h = rw (ea, eb, ec) (simp (zero-mul, xor_zero_l) refl)
-eight R a b c ea eb ec (suc zero) h = rw (ea, eb, ec) (simp (zero-mul, one-mul, xor_zero_r) refl)
-eight R a b c ea eb ec (suc (suc zero)) h = rw (ea, eb, ec) (simp (zero-mul, one-mul, xor_zero_l, xor_zero_r) refl)
-eight R a b c ea eb ec (suc (suc (suc zero))) h = rw (ea, eb, ec) (simp (zero-mul, one-mul, xor_zero_r) refl)
-eight R a b c ea eb ec (suc (suc (suc (suc zero)))) h = rw (ea, eb, ec) (simp (zero-mul, one-mul, xor_zero_l) refl)
-eight R a b c ea eb ec (suc (suc (suc (suc (suc zero))))) h = rw (ea, eb, ec) (simp (zero-mul, one-mul, xor_zero_r) refl)
-eight R a b c ea eb ec (suc (suc (suc (suc (suc (suc zero)))))) h = rw (ea, eb, ec) (simp (zero-mul, one-mul, xor_zero_l) refl)
-eight R a b c ea eb ec (suc (suc (suc (suc (suc (suc (suc zero))))))) h = rw (ea, eb, ec) (simp one-mul refl)
-eight R a b c ea eb ec (suc (suc (suc (suc (suc (suc (suc (suc j)))))))) h = absurd (omega arith)
+eight a b c zero h = simp (zero-mul, xor_zero_l) refl
+eight a b c (suc zero) h = simp (zero-mul, one-mul, xor_zero_r) refl
+eight a b c (suc (suc zero)) h = simp (zero-mul, one-mul, xor_zero_l, xor_zero_r) refl
+eight a b c (suc (suc (suc zero))) h = simp (zero-mul, one-mul, xor_zero_r) refl
+eight a b c (suc (suc (suc (suc zero)))) h = simp (zero-mul, one-mul, xor_zero_l) refl
+eight a b c (suc (suc (suc (suc (suc zero))))) h = simp (zero-mul, one-mul, xor_zero_r) refl
+eight a b c (suc (suc (suc (suc (suc (suc zero)))))) h = simp (zero-mul, one-mul, xor_zero_l) refl
+eight a b c (suc (suc (suc (suc (suc (suc (suc zero))))))) h = simp one-mul refl
+eight a b c (suc (suc (suc (suc (suc (suc (suc (suc j)))))))) h = absurd (omega arith)
 
 parity : (a b c d e f : ℕ) → ((0 + a + b + c) % 2 + (0 + d + e + f) % 2) % 2 ≡ (0 + a + b + c + d + e + f) % 2
 parity a b c d e f = omega arith
@@ -203,14 +203,23 @@ unfolding walked
 walked_next lo hi v zero x h e = absurd (omega arith)
 walked_next lo hi v (suc i) x h e = let z : suc i - 1 ≡ i = omega arith in ap (stepped lo hi) (e ∙ ap (walked lo hi v) z)
 
+below_three : (P : ℕ → Type 0) → P 0 → P 1 → P 2 → (k : ℕ) → k < 3 → P k
+below_three P a b c zero h = a
+below_three P a b c (suc zero) h = b
+below_three P a b c (suc (suc zero)) h = c
+below_three P a b c (suc (suc (suc k))) h = absurd (omega arith)
+
 -- the words of r three by three
-module _ (r : List ℕ) (h : Words r) (lo hi : List ℕ) (sl : Sums 3 (λ (k : ℕ). at r (0 + k)) lo) (sh : Sums 3 (λ (k : ℕ). at r (3 + k)) hi) where
+module _ (r : List ℕ) (h : Words r) (lo hi : List ℕ) (sl : Sums 3 (at (at r 0 ∷ at r 1 ∷ at r 2 ∷ [])) lo) (sh : Sums 3 (at (at r 3 ∷ at r 4 ∷ at r 5 ∷ [])) hi) where
   pub low_small : SmallSums lo
-  low_small = sums_small _ (λ k q. h (0 + k) (omega arith)) lo sl
+  low_small = sums_small _ (below_three _ (h 0 (omega arith)) (h 1 (omega arith)) (h 2 (omega arith))) lo sl
 
   pub high_small : SmallSums hi
-  high_small = sums_small _ (λ k q. h (3 + k) (omega arith)) hi sh
+  high_small = sums_small _ (below_three _ (h 3 (omega arith)) (h 4 (omega arith)) (h 5 (omega arith))) hi sh
 
-  pub through : (v : ℕ) → v < 64 → (t : ℕ) → walked lo hi v t ≡ iterated 6 (at r) v t
-  through v l t =
-      walked_iterated (at r) h lo hi (sums_same _ (at r) (λ k q. let z : 0 + k ≡ k = omega arith in ap (at r) z) lo sl) sh v l t
+  pub through : (v t : ℕ) → v < 64 → walked lo hi v t ≡ iterated 6 (at r) v t
+  through v t l =
+      walked_iterated (at r) h lo hi
+      (sums_same _ (at r) (below_three (λ k. at (at r 0 ∷ at r 1 ∷ at r 2 ∷ []) k ≡ at r k) refl refl refl) lo sl)
+      (sums_same _ (tail (at r)) (below_three (λ k. at (at r 3 ∷ at r 4 ∷ at r 5 ∷ []) k ≡ at r (3 + k)) refl refl refl) hi sh)
+      v l t

@@ -2,9 +2,8 @@
 use Rattle.std.specs.Prelude.{Bool, List, ◌≡◌, ℕ, ◌^◌, ◌<◌, get_or, length}
 use Rattle.bicycle_common.specs.Ranges.{listed}
 use Rattle.native_measurement.specs.Natives.{natives}
-use Rattle.measurement.specs.Matrices.{side, Matrix, of_bytes}
-use Rattle.measurement.specs.Measures.{native_string, pair_string}
-use Rattle.natives.specs.declared.Natives.{Natives}
+use Rattle.measurement.specs.Matrices.{side, Matrix}
+use Rattle.measurement.specs.Measures.{native_string}
 use Rattle.natives.specs.Kept.{kept}
 
 -- what an array holds at an index
@@ -23,11 +22,3 @@ pub record Held (q : ℕ) (l : List ℕ) : Type 0 where
 -- the kept flag of each native, of which f gives the strings
 abbrev pub flags : (ℕ → ℕ) → List Bool
 flags f = listed (kept f) natives
-
--- the natives of two matrices that are held by rows
-abbrev pub natives_of : List ℕ → List ℕ → Natives
-natives_of mx my = record {
-  pair = record { mx = mx; my = my };
-  strings = strings (of_bytes side mx) (of_bytes side my);
-  kept = flags (pair_string side mx my);
-}

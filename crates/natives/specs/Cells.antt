@@ -1,11 +1,10 @@
 -- The cell of an automorphism: the string of the pair of letters (Y,Y), which has the column twice and the row twice. The mask of a pair of
 -- letters shows of it the string of that pair. Assumes nothing.
-use Rattle.std.specs.Prelude.{List, ◌≡◌, ℕ, ◌+◌, ◌-◌, ◌*◌, ◌/◌, ◌%◌, ◌^◌, ◌<◌, ◌≤◌, length}
+use Rattle.std.specs.Prelude.{List, count_by, drop, ◌≡◌, ◌==◌, ℕ, ◌+◌, ◌*◌, ◌/◌, ◌%◌, ◌^◌, ◌<◌, ◌≤◌, length}
 use Rattle.std.specs.Int.Bits.{bit_and}
 use Rattle.measurement.specs.Matrices.{side}
 use Rattle.natives.specs.Arrays.{at}
 use Rattle.natives.specs.Packed.{word_string, grid_column, grid_row}
-use Rattle.natives.specs.Chains.{occurrences}
 
 -- the cell with column c and row w
 abbrev pub spread : ℕ → ℕ → ℕ
@@ -34,10 +33,20 @@ pub record Marked (f : ℕ → ℕ) (l : List ℕ) : Type 0 where
   pub cells : (a : ℕ) → a < 36 → at l a ≡ f a + 16777216 * s
   pub full : s ≡ 0 → Full f
 
+-- the column, the row and the mark of a cell
+abbrev pub column : ℕ → ℕ
+column v = v % 2 ^ side
+
+abbrev pub row : ℕ → ℕ
+row v = v / 4096 % 2 ^ side
+
+abbrev pub mark : ℕ → ℕ
+mark v = v / 16777216
+
 -- 36 cells; where one is unmarked, no column and no row is 0
 pub record Spread (l : List ℕ) : Type 0 where
   pub long : length l ≡ 36
-  pub words : (a : ℕ) → a < 36 → (c : ℕ) × (w : ℕ) × (s : ℕ) × (c < 2 ^ side) × (w < 2 ^ side) × (at l a ≡ spread c w + 16777216 * s)
+  pub words : (a : ℕ) → a < 36 → at l a ≡ spread (column (at l a)) (row (at l a)) + 16777216 * mark (at l a)
   pub full : (a : ℕ) → a < 36 → at l a < 16777216 → Full (at l)
 
 -- the cell of automorphism a by a grid of columns and a grid of rows
@@ -58,6 +67,6 @@ pub record Block (b a : ℕ) (f : ℕ → ℕ) (l m : List ℕ) : Type 0 where
 
 -- ---- which are kept
 
--- of the cells from some one on that is not behind a, one shows v
-abbrev pub Alone : (ℕ → ℕ) → ℕ → ℕ → Type 0
-Alone f v a = (from : ℕ) × (from ≤ a) × (occurrences f v from (36 - from) ≡ 1)
+-- of the cells l from some one on that is not behind a, one shows to the mask m what cell a shows
+abbrev pub Alone : List ℕ → ℕ → ℕ → Type 0
+Alone l m a = (from : ℕ) × (from ≤ a) × (count_by (λ (c : ℕ). bit_and c m == bit_and (at l a) m) (drop from l) ≡ 1)

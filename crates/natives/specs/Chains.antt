@@ -1,8 +1,6 @@
 -- How equal strings are found. Chains of natives whose strings fall into one bucket: each native's next is the least greater one, or 540 at
--- the end. And a count of the places where a string stands. Assumes nothing.
-use Rattle.std.specs.Prelude.{List, ◌≡◌, ℕ, ◌+◌, ◌%◌, ◌<◌, ◌≤◌, eqb}
-use Rattle.bicycle_common.specs.Letters.{flag}
-use Rattle.bicycle_common.specs.Ranges.{sum}
+-- the end. Assumes nothing.
+use Rattle.std.specs.Prelude.{List, ◌≡◌, ℕ, ◌+◌, ◌%◌, ◌<◌, ◌≤◌}
 use Rattle.native_measurement.specs.Natives.{natives}
 use Rattle.natives.specs.Arrays.{at}
 
@@ -25,9 +23,3 @@ Linked f next lo = (m : ℕ) → lo ≤ m → m < natives → Next f (f m) (m + 
 
 abbrev pub Heads : (ℕ → ℕ) → List ℕ → ℕ → Type 0
 Heads f head lo = (h : ℕ) → h < buckets → Next f h lo (at head h)
-
--- ---- a count
-
--- how many of f from, .., f (from + k - 1) are v
-abbrev pub occurrences : (ℕ → ℕ) → ℕ → ℕ → ℕ → ℕ
-occurrences f v from k = sum k (λ (j : ℕ). flag (eqb (f (from + j)) v))

@@ -1,5 +1,5 @@
 -- Which native is kept of those that measure one string. Assumes nothing.
-use Rattle.std.specs.Prelude.{Bool, true, not, ◌&&◌, cond, ◌≡◌, ℕ, zero, suc, ◌<◌, ◌≤◌, eqb, ltb}
+use Rattle.std.specs.Prelude.{Bool, Option, MatchOption, true, not, ◌&&◌, cond, ◌≡◌, ℕ, zero, suc, ◌<◌, ◌≤◌, eqb, ltb}
 use Rattle.bicycle_common.specs.Ranges.{all_below}
 use Rattle.native_measurement.specs.Natives.{natives}
 
@@ -22,6 +22,11 @@ Kept f n = (m : ℕ) → n < m → m < natives → f m ≡ f n → ⊥
 unfoldable pub kept_below : (ℕ → ℕ) → ℕ → ℕ → ℕ
 kept_below f x zero = natives
 kept_below f x (suc k) = cond (eqb (f k) x) k (kept_below f x k)
+
+-- o is the greatest native whose string is x, if there is one
+abbrev pub LastWith : (ℕ → ℕ) → ℕ → Option ℕ → Type 0
+LastWith f x o =
+    MatchOption o ((n : ℕ) → n < natives → f n ≡ x → ⊥) (λ k. (k < natives) × (f k ≡ x) × ((n : ℕ) → k < n → n < natives → f n ≡ x → ⊥))
 
 -- the number that is kept for string x, or `natives` where no native measures x
 abbrev pub kept_for : (ℕ → ℕ) → ℕ → ℕ

@@ -55,15 +55,16 @@ abbrev pub word_at : ℕ → ℕ → List ℕ → ℕ → ℕ
 word_at line step m k = packed side (λ (j : ℕ). at m (line * k + step * j))
 
 -- all these bytes are there, and none is over 1
-abbrev pub Lines : ℕ → ℕ → List ℕ → Type 0
-Lines line step m = (k j : ℕ) → k < side → j < side → (line * k + step * j < length m) × (at m (line * k + step * j) ≤ 1)
+pub record Lines (line step : ℕ) (m : List ℕ) : Type 0 where
+  pub there : (k j : ℕ) → k < side → j < side → line * k + step * j < length m
+  pub binary : (k j : ℕ) → k < side → j < side → at m (line * k + step * j) ≤ 1
 
 -- 1 taken through p i times, then through q j times; a grid of these; and that its cells are words
 unfoldable pub cell : List ℕ → List ℕ → ℕ → ℕ → ℕ
 cell p q i j = iterated side (at q) (iterated side (at p) 1 i) j
 
-abbrev pub Cells : List ℕ → List ℕ → List (List ℕ) → Type 0
-Cells p q g = (i j : ℕ) → i < side → j < side → of_rows g i j ≡ cell p q i j
+abbrev pub GridOf : List ℕ → List ℕ → List (List ℕ) → Type 0
+GridOf p q g = (i j : ℕ) → i < side → j < side → of_rows g i j ≡ cell p q i j
 
 abbrev pub SmallCells : List (List ℕ) → Type 0
 SmallCells g = (i j : ℕ) → i < side → j < side → of_rows g i j < 2 ^ side

@@ -10,22 +10,23 @@
 // (see NOTICE).
 #![tactic(auto)]
 
-ghost use Rattle.std.specs.Prelude.{◌≡◌, true, ℕ, ◌+◌, ◌-◌, ◌*◌, ◌^◌, ◌<◌, ◌≤◌, eqb, get_or, length};
+ghost use Rattle.std.specs.Prelude.{◌≡◌, ◌==◌, true, false, ℕ, ◌+◌, ◌-◌, ◌*◌, ◌^◌, ◌<◌, ◌≤◌, length, count_by, ◌∷◌, []};
 ghost use Rattle.std.specs.Int.Bits.{bit_and};
-ghost use Rattle.bicycle_common.specs.Letters.{flag};
 ghost use Rattle.pauli_string.specs.Strings.{qubits};
 ghost use Rattle.native_measurement.specs.Natives.{natives};
-ghost use Rattle.measurement.specs.Matrices.{side, of_rows, of_bytes, is_bytes, Binary, Same};
+ghost use Rattle.measurement.specs.Matrices.{side, of_bytes};
 ghost use Rattle.measurement.specs.Measures.{pair_string};
-ghost use Rattle.natives.specs.Kept.{kept, kept_for};
-ghost use Rattle.natives.specs.Arrays.{at, strings, flags, natives_of};
-ghost use Rattle.natives.specs.Packed.{iterated, Sums, SmallSums, stepped, walked, of_row_words, of_column_words, Words, word_at, Lines, Cells, SmallCells, word_string};
-ghost use Rattle.natives.specs.Cells.{mask, masked, shown, Full, Marked, Spread, grid_cell, Upto, Block, Alone};
-ghost use Rattle.natives.specs.Chains.{bucket, Next, Linked, occurrences};
+ghost use Rattle.natives.specs.Kept.{kept, LastWith, kept_for};
+ghost use Rattle.natives.specs.Arrays.{at, strings, Held, flags};
+ghost use Rattle.natives.specs.Packed.{iterated, Sums, SmallSums, stepped, walked, Words, word_at, Lines, GridOf, SmallCells, word_string};
+ghost use Rattle.natives.specs.Cells.{mask, shown, Full, Marked, Spread, grid_cell, Upto, Block, Alone};
+ghost use Rattle.natives.specs.Chains.{bucket, Next, Linked};
 
-use measurement::CodeMeasurement;
+use measurement::{CodeMeasurement, Pair};
+use pauli_string::STRINGS;
+use std::array;
 
-// The natives of a pair.
+// The natives of a pair. Two arrays, as the strings alone are walked, searched and lent.
 #[derive(Clone, Copy)]
 pub struct Natives {
     pub pair: CodeMeasurement,
@@ -33,128 +34,129 @@ pub struct Natives {
     pub strings: [u32; 540],
     // Whether no native of a greater number has the same string
     pub kept: [bool; 540],
+    pub ghost held: { Held qubits strings },
+    pub ghost flagged: { kept ≡ flags (at strings) },
+}
+
+// The cells of the automorphisms of a pair: 36 numbers, which hold the strings of all natives.
+#[derive(Clone, Copy)]
+pub struct Cells {
+    pub cells: [u32; 36],
+    pub ghost spread: { Spread cells },
 }
 
 // ---- rows and columns as words of six bits
 
-// Three words of r from one on, added modulo 2 in each way: sum j has those that j names by its digits.
-fn sums(r: [u32; 6], from: usize) -> [u32; 8]
-    requires { Words r × (from ≤ 3) }
-    ensures { Sums 3 (λ (k : ℕ). at r (from + k)) result }
+// Six words of six digits: the rows, or the columns, of a matrix.
+#[derive(Clone, Copy)]
+struct Vectors {
+    words: [u32; 6],
+    ghost small: { Words words },
+}
+
+// A matrix as the sums of its first three words and of its last three: a word goes through it by two reads.
+#[derive(Clone, Copy)]
+struct Halves {
+    low: [u32; 8],
+    high: [u32; 8],
+    ghost low_small: { SmallSums low },
+    ghost high_small: { SmallSums high },
+}
+
+// Six words of six digits for each of six.
+#[derive(Clone, Copy)]
+struct Grid {
+    rows: [[u32; 6]; 6],
+    ghost small: { SmallCells rows },
+}
+
+// Three words added modulo 2 in each way: sum j has those that j names by its digits.
+#[tactic(auto, using(crate::proofs::Words::eight))]
+fn sums(a: u32, b: u32, c: u32) -> [u32; 8]
+    ensures { Sums 3 (at (a ∷ b ∷ c ∷ [])) result }
 {
-    let a = r[from];
-    let b = r[from + 1];
-    let c = r[from + 2];
     [0, a, b, a ^ b, c, a ^ c, b ^ c, a ^ b ^ c]
 }
 
-// v taken through a matrix, by the sums of its first three words and of its last three.
-fn step(lo: &[u32; 8], hi: &[u32; 8], v: u32) -> u32
-    requires { (length lo.now ≡ 8) × (length hi.now ≡ 8) × (v < 2 ^ side) }
-    ensures { result ≡ stepped lo.now hi.now v }
-{
-    let i = (v % 8) as usize;
-    let j = (v / 8) as usize;
-    lo[i] ^ hi[j]
-}
-
-// v taken through it no time, once, .. five times.
-fn run(v: u32, lo: &[u32; 8], hi: &[u32; 8]) -> [u32; 6]
-    requires { (v < 2 ^ side) × SmallSums lo.now × SmallSums hi.now }
-    ensures { (t : ℕ) → t < side → get_or result t 0 ≡ walked lo.now hi.now v t }
-{
-    let mut out = [v; 6];
-    let mut i: usize = 1;
-    while i < 6 {
-        let last = out[i - 1];
-        out[i] = step(lo, hi, last);
-        i += 1;
+impl Halves {
+    fn of(r: &Vectors) -> Halves
+        ensures { (v t : ℕ) → v < 2 ^ side → walked result.low result.high v t ≡ iterated side (at r.now.words) v t }
+    {
+        let [a, b, c, d, e, f] = r.words;
+        Halves {
+            low: sums(a, b, c),
+            high: sums(d, e, f),
+        }
     }
-    out
-}
 
-// Each of six words taken through r no time, once, .. five times.
-fn runs(heads: [u32; 6], r: [u32; 6]) -> [[u32; 6]; 6]
-    requires { Words heads × Words r }
-    ensures { (i j : ℕ) → i < side → j < side → of_rows result i j ≡ iterated side (at r) (at heads i) j }
-{
-    let lo = sums(r, 0);
-    let hi = sums(r, 3);
-    let mut out = [[0u32; 6]; 6];
-    let mut i: usize = 0;
-    while i < 6 {
-        out[i] = run(heads[i], &lo, &hi);
-        i += 1;
+    // v taken through the matrix.
+    fn step(&self, v: u32) -> u32
+        requires { v < 2 ^ side }
+        ensures { result ≡ stepped self.now.low self.now.high v }
+    {
+        self.low[(v % 8) as usize] ^ self.high[(v / 8) as usize]
     }
-    out
+
+    // v taken through it no time, once, .. five times.
+    fn run(&self, v: u32) -> Vectors
+        requires { v < 2 ^ side }
+        ensures { (t : ℕ) → t < side → at result.words t ≡ walked self.now.low self.now.high v t }
+    {
+        let mut words = [v; 6];
+        for t in 1..6 {
+            words[t] = self.step(words[t - 1]);
+        }
+        Vectors { words }
+    }
 }
 
-// 1 taken through p i times.
-fn heads(p: [u32; 6]) -> [u32; 6]
-    requires { Words p }
-    ensures { Words result × ((i : ℕ) → i < side → at result i ≡ iterated side (at p) 1 i) }
-{
-    let lo = sums(p, 0);
-    let hi = sums(p, 3);
-    run(1, &lo, &hi)
-}
-
-// 1 taken through p i times and then through q j times, for each i and j.
-fn grid(p: [u32; 6], q: [u32; 6]) -> [[u32; 6]; 6]
-    requires { Words p × Words q }
-    ensures { Cells p q result × SmallCells result }
-{
-    let first = heads(p);
-    runs(first, q)
+impl Grid {
+    // 1 taken through p i times and then through q j times, for each i and j.
+    fn of(p: &Vectors, q: &Vectors) -> Grid
+        ensures { GridOf p.now.words q.now.words result.rows }
+    {
+        let heads = Halves::of(p).run(1);
+        let through = Halves::of(q);
+        let mut rows = [[0u32; 6]; 6];
+        // A `for`: through `map` it is not found that each head is a word
+        for (i, head) in heads.words.iter().enumerate() {
+            let Vectors { words } = through.run(*head);
+            rows[i] = words;
+        }
+        Grid { rows }
+    }
 }
 
 // Word k of the bytes, whose digit j is the byte at line * k + step * j.
+#[tactic(auto, using(crate::proofs::Grids::place_in))]
 fn word_at(m: &[u8], line: usize, step: usize, k: usize) -> u32
-    requires { (length m.now ≡ side * side) × Lines line step m.now × (k < side) }
+    requires { Lines line step m.now × (k < side) }
     ensures { result ≡ word_at line step m.now k }
 {
-    let q = line * k;
-    let v = [
-        m[q],
-        m[q + step],
-        m[q + 2 * step],
-        m[q + 3 * step],
-        m[q + 4 * step],
-        m[q + 5 * step],
-    ];
-    measurement::packed_unchecked(v)
+    measurement::packed_unchecked(array::from_fn(
+        |j|
+            requires { line * k + step * j < length m.now }
+        { m[line * k + step * j] },
+    ))
 }
 
-fn words_of(m: &[u8], line: usize, step: usize) -> [u32; 6]
-    requires { (length m.now ≡ side * side) × Lines line step m.now }
-    ensures { (k : ℕ) → k < side → at result k ≡ word_at line step m.now k }
-{
-    let mut out = [0u32; 6];
-    let mut k: usize = 0;
-    while k < 6 {
-        out[k] = word_at(m, line, step, k);
-        k += 1;
+impl Vectors {
+    // The six words: the rows of a matrix by rows if line and step are 6 and 1, its columns if they are 1 and 6.
+    fn of(m: &[u8], line: usize, step: usize) -> Vectors
+        requires { Lines line step m.now }
+        ensures { (k : ℕ) → k < side → at result.words k ≡ word_at line step m.now k }
+    {
+        Vectors {
+            words: array::from_fn(|k| word_at(m, line, step, k)),
+        }
     }
-    out
-}
-
-fn rows_of(m: &[u8]) -> [u32; 6]
-    requires { (length m.now ≡ side * side) × Binary side (of_bytes side m.now) }
-    ensures { Words result × Same side (of_row_words result) (of_bytes side m.now) }
-{
-    words_of(m, 6, 1)
-}
-
-fn columns_of(m: &[u8]) -> [u32; 6]
-    requires { (length m.now ≡ side * side) × Binary side (of_bytes side m.now) }
-    ensures { Words result × Same side (of_column_words result) (of_bytes side m.now) }
-{
-    words_of(m, 1, 6)
 }
 
 // ---- the cells of the automorphisms, and the strings that they show
 
-// The string of pair k of letters, of which c is the column and w the row.
+// The string of pair k of letters, of which c is the column and w the row. By digits, where `native_measurement` makes
+// letters: the masks are formed for each native anew.
+#[tactic(auto, using(crate::proofs::Grids::place_digits))]
 fn place(c: u32, w: u32, k: u32) -> u32
     requires { (c < 2 ^ side) × (w < 2 ^ side) × (k < 15) }
     ensures { result ≡ word_string c w k }
@@ -165,6 +167,7 @@ fn place(c: u32, w: u32, k: u32) -> u32
 }
 
 // What pair k of letters shows of a cell.
+#[tactic(auto, unfolding(crate::specs::Cells::mask))]
 fn mask(k: u32) -> u32
     requires { k < 15 }
     ensures { result ≡ mask k }
@@ -175,105 +178,71 @@ fn mask(k: u32) -> u32
 // The cells of the automorphisms with first component x by the grid of columns and the grid of rows: a cell is the string
 // of the last pair of letters, (Y,Y), which has the column twice and the row twice. The column is that of the inverse
 // automorphism.
-fn line(cs: [[u32; 6]; 6], rs: [[u32; 6]; 6], x: usize, out: &mut [u32])
-    requires { SmallCells cs × SmallCells rs × (x < 6) × (length out.old ≡ 36) }
-    ensures { Block 6 x (λ (y : ℕ). grid_cell cs rs (6 * x + y)) out.old out.new }
+fn line(cs: &Grid, rs: &Grid, x: usize, out: &mut [u32; 36])
+    requires { x < 6 }
+    ensures { Block 6 x (λ (y : ℕ). grid_cell cs.now.rows rs.now.rows (6 * x + y)) out.old out.new }
 {
-    let mut y: usize = 0;
-    while y < 6 {
-        let c = cs[(6 - y) % 6][(6 - x) % 6];
-        let w = rs[x][y];
+    // By number: over a part of the array it is not found that the rest stays
+    for y in 0..6 {
+        let c = cs.rows[(6 - y) % 6][(6 - x) % 6];
+        let w = rs.rows[x][y];
         out[6 * x + y] = place(c, w, 14);
-        y += 1;
     }
 }
 
-// The cells of all automorphisms.
-fn lines(cs: [[u32; 6]; 6], rs: [[u32; 6]; 6]) -> [u32; 36]
-    requires { SmallCells cs × SmallCells rs }
-    ensures { Upto 6 36 (grid_cell cs rs) 6 result }
+// The cells of all automorphisms, line by line: by one number they would be divided by 6, and take longer. Not inlined,
+// so that the grids stay in memory, for speed.
+#[inline(never)]
+fn lines(cs: &Grid, rs: &Grid) -> [u32; 36]
+    ensures { Upto 6 36 (grid_cell cs.now.rows rs.now.rows) 6 result }
 {
     let mut out = [0u32; 36];
-    let mut x: usize = 0;
-    while x < 6 {
+    for x in 0..6 {
         line(cs, rs, x, &mut out);
-        x += 1;
     }
     out
 }
 
-// 1 where two numbers are equal. The loop that counts has no branch, for speed.
-fn same(a: u32, b: u32) -> u32
-    ensures { result ≡ flag (eqb a b) }
+// How many of the cells show v. A sum has no branch, for speed.
+fn count(cells: &[u32], mask: u32, v: u32) -> u32
+    requires { length cells.now ≤ 36 }
+    ensures { result ≡ count_by (λ (c : ℕ). bit_and c mask == v) cells.now }
 {
-    if a == b { 1 } else { 0 }
+    cells.iter().map(|cell| u32::from(*cell & mask == v)).sum()
 }
 
-// How many of the cells from one on show v.
-fn count(cells: &[u32; 36], mask: u32, v: u32, from: usize) -> u32
-    requires { (length cells.now ≡ 36) × (from ≤ 36) }
-    ensures { result ≡ occurrences (masked (at cells.now) mask) v from (36 - from) }
+// Whether some column, which 63 shows, or some row, which 258048 shows, is 0.
+#[tactic(auto, using(crate::proofs::Chains::none_there), unfolding(crate::specs::Cells::mask, measurement::specs::Measures::placed))]
+fn lacks(cells: &[u32; 36]) -> bool
+    ensures { result ≡ false → Full (at cells.now) }
 {
-    let mut c: u32 = 0;
-    let mut a: usize = from;
-    while a < 36 {
-        c += same(cells[a] & mask, v);
-        a += 1;
-    }
-    c
-}
-
-// 1 where some column, which 63 shows, or some row, which 258048 shows, is 0.
-fn lacks(cells: &[u32; 36]) -> u32
-    requires { length cells.now ≡ 36 }
-    ensures { (result ≤ 1) × (result ≡ 0 → Full (at cells.now)) }
-{
-    if count(cells, 63, 0, 0) != 0 {
-        return 1;
-    }
-    if count(cells, 258048, 0, 0) != 0 {
-        return 1;
-    }
-    0
+    count(cells, 63, 0) != 0 || count(cells, 258048, 0) != 0
 }
 
 // The cells, each with a mark that no pair of letters shows where some column or some row is 0.
 fn marked(cells: [u32; 36]) -> [u32; 36]
-    requires { (length cells ≡ 36) × ((a : ℕ) → a < 36 → at cells a < 4 ^ qubits) }
+    requires { (a : ℕ) → a < 36 → at cells a < 4 ^ qubits }
     ensures { Marked (at cells) result }
 {
-    let s = lacks(&cells);
-    let mut out = [0u32; 36];
-    let mut a: usize = 0;
-    while a < 36 {
-        out[a] = cells[a] + 16777216 * s;
-        a += 1;
-    }
-    out
+    let mark = STRINGS * u32::from(lacks(&cells));
+    // By number: through `map` it is not found that the sum fits
+    array::from_fn(|a| cells[a] + mark)
 }
 
-// The cells of the pair, which hold the strings of all natives.
-pub fn cells_unchecked(mx: &[u8], my: &[u8]) -> [u32; 36]
-    requires { (is_bytes side mx.now ≡ true) × (is_bytes side my.now ≡ true) }
-    ensures { Spread result × ((n : ℕ) → n < natives → shown result n ≡ pair_string side mx.now my.now n) }
+// The cells of the pair.
+pub fn cells_unchecked(pair: Pair<'_>) -> Cells
+    ensures { (n : ℕ) → n < natives → shown result.cells n ≡ pair_string side pair.entry.mx.now pair.entry.my.now n }
 {
-    let rx = rows_of(mx);
-    let ry = rows_of(my);
-    let cx = columns_of(mx);
-    let cy = columns_of(my);
-    let rs = grid(rx, ry);
+    let rx = Vectors::of(pair.mx, 6, 1);
+    let ry = Vectors::of(pair.my, 6, 1);
+    let cx = Vectors::of(pair.mx, 1, 6);
+    let cy = Vectors::of(pair.my, 1, 6);
+    let rs = Grid::of(&rx, &ry);
     // A column is taken through the last factor first
-    let cs = grid(cy, cx);
-    marked(lines(cs, rs))
-}
-
-// The string of native n by the cells.
-pub fn string_unchecked(cells: &[u32; 36], n: u32) -> u32
-    requires { Spread cells.now × (n < natives) }
-    ensures { result ≡ shown cells.now n }
-{
-    let a = (n / 15) as usize;
-    cells[a] & mask(n % 15)
+    let cs = Grid::of(&cy, &cx);
+    Cells {
+        cells: marked(lines(&cs, &rs)),
+    }
 }
 
 // The fifteen strings of automorphism a by its cell.
@@ -281,74 +250,108 @@ fn block(cell: u32, a: usize, out: &mut [u32])
     requires { (a < 36) × (length out.old ≡ natives) }
     ensures { Block 15 a (λ (k : ℕ). bit_and cell (mask k)) out.old out.new }
 {
-    let mut k: u32 = 0;
-    while k < 15 {
-        out[15 * a + k as usize] = cell & mask(k);
-        k += 1;
+    for (k, string) in out[15 * a..15 * a + 15].iter_mut().enumerate() {
+        *string = cell & mask(k as u32);
     }
 }
 
-// The strings of all natives by the cells.
-fn blocks(cells: &[u32; 36], out: &mut [u32])
-    requires { Spread cells.now × (length out.old ≡ natives) }
-    ensures { Upto 15 natives (shown cells.now) 36 out.new }
-{
-    let mut a: usize = 0;
-    while a < 36 {
-        block(cells[a], a, out);
-        a += 1;
+impl Cells {
+    // The string of native n. A bare number: walks reckon it from a value's field, loops count it.
+    #[tactic(auto, unfolding(crate::specs::Cells::shown))]
+    pub fn string_unchecked(&self, n: u32) -> u32
+        requires { n < natives }
+        ensures { result ≡ shown self.now.cells n }
+    {
+        self.cells[(n / 15) as usize] & mask(n % 15)
+    }
+
+    // The strings of all natives. `lines` goes through cells likewise: a call for both would take each step as
+    // a closure, whose contract is longer than the loop.
+    fn blocks(&self, out: &mut [u32])
+        requires { length out.old ≡ natives }
+        ensures { Upto 15 natives (shown self.now.cells) 36 out.new }
+    {
+        for (a, cell) in self.cells.iter().enumerate() {
+            block(*cell, a, out);
+        }
+    }
+
+    // Whether no string behind native n is its own. Each is formed in turn.
+    #[tactic(auto, using(crate::proofs::Kept::kept_complete))]
+    fn is_last(&self, n: u32) -> bool
+        requires { n < natives }
+        ensures { result ≡ kept (shown self.now.cells) n }
+    {
+        let v = self.string_unchecked(n);
+        // A `for`: what `all` tells of a range over the cells does not come to `kept`
+        for m in n + 1..540 {
+            if self.string_unchecked(m) == v {
+                return false;
+            }
+        }
+        true
+    }
+
+    // Whether one cell alone shows to the mask what cell a shows, of all cells or of those from a on. The first count is
+    // the faster.
+    fn is_alone(&self, mask: u32, a: usize) -> bool
+        requires { a < 36 }
+        ensures { result ≡ true → Alone self.now.cells mask a }
+    {
+        let v = self.cells[a] & mask;
+        count(&self.cells, mask, v) == 1 || count(&self.cells[a..], mask, v) == 1
+    }
+
+    // Whether native n is kept. Where no column and no row is 0, only a cell that shows the same to the same letters has
+    // the same string.
+    #[tactic(auto, using(crate::proofs::Shown::alone_kept))]
+    pub fn is_kept_unchecked(&self, n: u32) -> bool
+        requires { n < natives }
+        ensures { result ≡ kept (shown self.now.cells) n }
+    {
+        let a = (n / 15) as usize;
+        let m = mask(n % 15);
+        self.cells[a] < STRINGS && self.is_alone(m, a) || self.is_last(n)
     }
 }
 
-// The strings of all natives of the pair.
-pub fn strings_unchecked(mx: &[u8], my: &[u8], out: &mut [u32])
-    requires { (is_bytes side mx.now ≡ true) × (is_bytes side my.now ≡ true) × (length out.old ≡ natives) }
-    ensures { out.new ≡ strings (of_bytes side mx.now) (of_bytes side my.now) }
+// The strings of all natives of the pair. `out` is a slice, as the C interface of `timing` lends it.
+pub fn strings_unchecked(pair: Pair<'_>, out: &mut [u32])
+    requires { length out.old ≡ natives }
+    ensures { out.new ≡ strings (of_bytes side pair.entry.mx.now) (of_bytes side pair.entry.my.now) }
 {
-    let cells = cells_unchecked(mx, my);
-    blocks(&cells, out);
-}
-
-// The same as a value.
-fn strings_of(mx: &[u8], my: &[u8]) -> [u32; 540]
-    requires { (is_bytes side mx.now ≡ true) × (is_bytes side my.now ≡ true) }
-    ensures { result ≡ strings (of_bytes side mx.now) (of_bytes side my.now) }
-{
-    let mut out = [0u32; 540];
-    strings_unchecked(mx, my, &mut out);
-    out
+    cells_unchecked(pair).blocks(out);
 }
 
 // ---- which are kept
 
 // Whether no string on the chain from first on is that of n.
-fn alone(s: &[u32], next: &[u16; 540], n: usize, first: u16) -> bool
-    requires s_len { (length s.now ≡ natives) × (length next.now ≡ natives) × (n < natives) }
+fn alone(s: &[u32; 540], next: &[u16; 540], n: usize, first: u16) -> bool
+    requires n_lt_natives { n < natives }
     requires linked { Linked (bucket s.now) next.now (n + 1) × Next (bucket s.now) (bucket s.now n) (n + 1) first }
     ensures { result ≡ kept (at s.now) n }
 {
     let v = s[n];
-    let mut m: usize = first as usize;
+    let mut m = usize::from(first);
+    // No `for`: the links of a chain are followed, and `successors` with its end and its test would be no plainer
     while m < 540 {
         if s[m] == v {
             return false;
         }
-        m = next[m] as usize;
+        m = usize::from(next[m]);
     }
     true
 }
 
-// The kept flags of all natives. The chain of a bucket holds the natives passed so far whose strings fall into it.
-pub fn kept_flags_unchecked(s: &[u32]) -> [bool; 540]
-    requires { length s.now ≡ natives }
+// The kept flags of all natives. The chain of a bucket holds the natives passed so far whose strings fall into it. It is
+// linked by numbers in two arrays, as there is no heap, and ends at 540, as `Next` has it: an `Option` is twice as long.
+pub fn kept_flags_unchecked(s: &[u32; 540]) -> [bool; 540]
     ensures { result ≡ flags (at s.now) }
 {
     let mut head = [540u16; 1021];
     let mut next = [540u16; 540];
     let mut out = [false; 540];
-    let mut n: usize = 540;
-    while 0 < n {
-        n -= 1;
+    for n in (0..540).rev() {
         let h = (s[n] % 1021) as usize;
         let first = head[h];
         out[n] = alone(s, &next, n, first);
@@ -358,64 +361,21 @@ pub fn kept_flags_unchecked(s: &[u32]) -> [bool; 540]
     out
 }
 
-// Whether no string behind native n is its own. Each is formed in turn.
-fn is_last(cells: &[u32; 36], n: u32) -> bool
-    requires { Spread cells.now × (n < natives) }
-    ensures { result ≡ kept (shown cells.now) n }
-{
-    let v = string_unchecked(cells, n);
-    let mut m: u32 = n + 1;
-    while m < 540 {
-        if string_unchecked(cells, m) == v {
-            return false;
-        }
-        m += 1;
+impl Natives {
+    // The greatest native with string x.
+    fn last_with(&self, x: u32) -> Option<usize>
+        ensures { LastWith (at self.now.strings) x result }
+    {
+        self.strings.iter().rposition(|string| *string == x)
     }
-    true
-}
 
-// Whether one cell alone shows v, of all cells or of those from a on. The first count is the faster.
-fn is_alone(cells: &[u32; 36], mask: u32, v: u32, a: usize) -> bool
-    requires { (length cells.now ≡ 36) × (a < 36) }
-    ensures { result ≡ true → Alone (masked (at cells.now) mask) v a }
-{
-    if count(cells, mask, v, 0) == 1 {
-        return true;
+    // The number that is kept for string x, or 540 where no native measures x, as `kept_for` has it.
+    #[tactic(auto, using(crate::proofs::Kept::last_kept))]
+    pub fn kept_number_unchecked(&self, x: u32) -> usize
+        ensures { result ≡ kept_for (at self.now.strings) x }
+    {
+        self.last_with(x).unwrap_or(540)
     }
-    count(cells, mask, v, a) == 1
-}
-
-// Whether native n is kept. Where no column and no row is 0, only a cell that shows the same to the same letters has the
-// same string.
-pub fn is_kept_unchecked(cells: &[u32; 36], n: u32) -> bool
-    requires { Spread cells.now × (n < natives) }
-    ensures { result ≡ kept (shown cells.now) n }
-{
-    let a = (n / 15) as usize;
-    let cell = cells[a];
-    if cell >= 16777216 {
-        return is_last(cells, n);
-    }
-    let m = mask(n % 15);
-    if is_alone(cells, m, cell & m, a) {
-        return true;
-    }
-    is_last(cells, n)
-}
-
-// The number that is kept for string x, or 540 where no native measures x.
-pub fn kept_number_unchecked(s: &[u32], x: u32) -> usize
-    requires { length s.now ≡ natives }
-    ensures { result ≡ kept_for (at s.now) x }
-{
-    let mut n: usize = 540;
-    while 0 < n {
-        n -= 1;
-        if s[n] == x {
-            return n;
-        }
-    }
-    540
 }
 
 // ---- all of it
@@ -425,27 +385,25 @@ fn held(m: &[u8]) -> [u8; 36]
     ensures { result ≡ m.now }
 {
     let mut out = [0u8; 36];
-    let mut q: usize = 0;
-    while q < 36 {
-        out[q] = m[q];
-        q += 1;
-    }
+    out.copy_from_slice(m);
     out
 }
 
 // The natives of the pair, with the pair.
-pub fn natives_unchecked(mx: &[u8], my: &[u8]) -> Natives
-    requires { (is_bytes side mx.now ≡ true) × (is_bytes side my.now ≡ true) }
-    ensures { result ≡ natives_of mx.now my.now }
+#[tactic(auto, using(crate::proofs::Arrays::strings_held, crate::proofs::Arrays::flags_of_strings))]
+pub fn natives_unchecked(pair: Pair<'_>) -> Natives
+    ensures pair { result.pair ≡ record { mx = pair.entry.mx.now; my = pair.entry.my.now } }
+    ensures strings { result.strings ≡ strings (of_bytes side pair.entry.mx.now) (of_bytes side pair.entry.my.now) }
+    ensures kept { result.kept ≡ flags (pair_string side pair.entry.mx.now pair.entry.my.now) }
 {
-    let x = held(mx);
-    let y = held(my);
-    let pair = CodeMeasurement { mx: x, my: y };
-    let strings = strings_of(mx, my);
-    let kept = kept_flags_unchecked(&strings);
+    let mut strings = [0u32; 540];
+    strings_unchecked(pair, &mut strings);
     Natives {
-        pair,
+        pair: CodeMeasurement {
+            mx: held(pair.mx),
+            my: held(pair.my),
+        },
         strings,
-        kept,
+        kept: kept_flags_unchecked(&strings),
     }
 }

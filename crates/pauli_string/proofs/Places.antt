@@ -80,13 +80,6 @@ letter_at_law q p i a b ea eb =
     (flag_of (bit p i) (bit_lt p i) ∙ ap flag ea)
     (ap (bit p) (add_comm q i) ∙ flag_of (bit p (i + q)) (bit_lt p (i + q)) ∙ ap flag eb)
 
--- `n << 1`, and with a digit set below it, in w bits
-pub push_zero : (w n : ℕ) → n * 2 < 2 ^ w → (n * 2) % 2 ^ w ≡ n * 2 + 0
-push_zero w n h = mod-eq_of_lt h ∙ sym (add-zero (n * 2))
-
-pub push_one : (w n : ℕ) → n * 2 < 2 ^ w → bit_or ((n * 2) % 2 ^ w) 1 ≡ n * 2 + 1
-push_one w n h = ap (λ (m : ℕ). bit_or m 1) (mod-eq_of_lt h) ∙ or_shifted n 1 1 (lit< tt)
-
 -- `z << q | x` in w bits
 pub join : (w q z x : ℕ) → q + q ≤ w → z < 2 ^ q → x < 2 ^ q → bit_or ((z * 2 ^ q) % 2 ^ w) x ≡ z * 2 ^ q + x
 join w q z x h hz hx = ap (λ (m : ℕ). bit_or m x) (shl_exact q q w hz h) ∙ or_shifted z q x hx

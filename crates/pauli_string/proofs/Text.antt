@@ -1,4 +1,6 @@
 -- Letters to string to letters, text to string to text, and what the mirror does to text. Assumes nothing.
+use Rattle.std.specs.Prelude.{Result, Ok, Err}
+use Rattle.bicycle_common.specs.declared.Refusal.{Refusal}
 use mathlib.Core.Path.{◌≡◌, refl, sym, ap, ap₂, ◌∙◌, subst}
 use mathlib.Core.Bool.{Bool, true, false, cond, ◌&&◌, and-eq-true_iff, and-true, and-false, and_assoc, and_comm}
 use mathlib.Core.Logic.{◌↔◌}
@@ -16,8 +18,6 @@ use lib.ListN.{length, get_or, take, drop, set, length-set, length-map, length-r
 use lib.Seq.{drop-cons, drop-length, take-suc, take_all, ext_get_or}
 use Rattle.bicycle_common.specs.declared.Pauli.{Pauli}
 use Rattle.bicycle_common.specs.declared.Pauli.TheVariants.{I}
-use Rattle.bicycle_common.specs.declared.LetterAnswer.{LetterAnswer}
-use Rattle.bicycle_common.specs.declared.LetterAnswer.TheVariants.{Is, Refused}
 use Rattle.bicycle_common.specs.Bytes.{upper}
 use Rattle.bicycle_common.specs.Letters.{x_of, z_of, letter, capital, read_letter}
 use Rattle.bicycle_common.specs.Ranges.{list_from}
@@ -25,7 +25,6 @@ use Rattle.bicycle_common.proofs.Ranges.{length_from, listed_at}
 use Rattle.bicycle_common.proofs.Letters.{x_of_lt, z_of_lt, letter_digits, digit_x, digit_z, read_capital, read_upper}
 use Rattle.bicycle_common.specs.declared.Refusal.TheVariants.{NotLetters}
 use Rattle.pauli_string.specs.declared.PauliString.{PauliString}
-use Rattle.pauli_string.specs.declared.StringAnswer.TheVariants.{Refused as NoString}
 use Rattle.pauli_string.specs.Strings.{bit, letter_at}
 use Rattle.pauli_string.specs.Answers.{string, read_text}
 use Rattle.pauli_string.specs.Text.{letters, number, string_of, text, good, the_letter, letter_of, all_letters, is_text, spelled}
@@ -141,7 +140,7 @@ letters_read (l ∷ ls) = ap₂ (λ (a : Pauli) (m : List Pauli). a ∷ m) (lett
 capitals_good : (ls : List Pauli) → all_letters (map capital ls) ≡ true
 unfolding all_letters
 capitals_good [] = refl
-capitals_good (l ∷ ls) = ap₂ (λ (a : LetterAnswer) (b : Bool). good a && b) (read_capital l) (capitals_good ls)
+capitals_good (l ∷ ls) = ap₂ (λ (a : Result Pauli Refusal) (b : Bool). good a && b) (read_capital l) (capitals_good ls)
 
 -- s is text where it has the length, and every byte stands for a letter
 pub text_good : (q : ℕ) (s : List ℕ) → length s ≡ q → all_letters s ≡ true → is_text q s ≡ true
@@ -185,9 +184,9 @@ capital_read : (b : ℕ) → good (read_letter b) ≡ true → capital (letter_o
 unfolding letter_of
 capital_read b h = go (read_letter b) refl h
   where
-    go : (a : LetterAnswer) → read_letter b ≡ a → good a ≡ true → capital (the_letter a) ≡ upper b
-    go (Is l) e g = sym (read_upper b l e)
-    go (Refused r) e g = let z : ◌≡◌ {A = ℕ} 0 1 = cc in absurd (omega arith)
+    go : (a : Result Pauli Refusal) → read_letter b ≡ a → good a ≡ true → capital (the_letter a) ≡ upper b
+    go (Ok l) e g = sym (read_upper b l e)
+    go (Err r) e g = let z : ◌≡◌ {A = ℕ} 0 1 = cc in absurd (omega arith)
 
 capitals_read : (s : List ℕ) → all_letters s ≡ true → map capital (map letter_of s) ≡ map upper s
 unfolding all_letters
@@ -245,10 +244,10 @@ palindrome q p h = (
 -- ---- what `from_text` answers
 
 pub read_good : (q : ℕ) (s : List ℕ) → is_text q s ≡ true → read_text q s ≡ string (spelled q s)
-read_good q s e = ap (λ (b : Bool). cond b (string (spelled q s)) (NoString NotLetters)) e
+read_good q s e = ap (λ (b : Bool). cond b (string (spelled q s)) (Err NotLetters)) e
 
-pub read_bad : (q : ℕ) (s : List ℕ) → is_text q s ≡ false → read_text q s ≡ NoString NotLetters
-read_bad q s e = ap (λ (b : Bool). cond b (string (spelled q s)) (NoString NotLetters)) e
+pub read_bad : (q : ℕ) (s : List ℕ) → is_text q s ≡ false → read_text q s ≡ Err NotLetters
+read_bad q s e = ap (λ (b : Bool). cond b (string (spelled q s)) (Err NotLetters)) e
 
 pub string_inj : (m n : ℕ) → string m ≡ string n → m ≡ n
 string_inj m n e =
@@ -256,7 +255,7 @@ string_inj m n e =
     ap (λ (x : PauliString). x.0) r
 
 -- no string is the refusal
-not_refused : (n : ℕ) → string n ≡ NoString NotLetters → ⊥
+not_refused : (n : ℕ) → string n ≡ Err NotLetters → ⊥
 not_refused n e = let z : ◌≡◌ {A = ℕ} 0 1 = cc in omega arith
 
 -- what is read as p is text that spells p
@@ -268,7 +267,7 @@ read_as q s p e = go (is_text q s) refl
     go false t = absurd (not_refused p (sym e ∙ read_bad q s t))
 
 -- and what is refused is no text
-pub refused_as : (q : ℕ) (s : List ℕ) → read_text q s ≡ NoString NotLetters → is_text q s ≡ false
+pub refused_as : (q : ℕ) (s : List ℕ) → read_text q s ≡ Err NotLetters → is_text q s ≡ false
 refused_as q s e = go (is_text q s) refl
   where
     go : (b : Bool) → is_text q s ≡ b → is_text q s ≡ false
@@ -290,7 +289,7 @@ reading_none n s ls hs hl =
     let z : n - 0 ≡ length ls = omega arith in
     record { within = omega arith; size = hs; room = hl; so_far = ap (λ (k : ℕ). drop k ls) z ∙ drop-length ls; all_good = refl }
 
-pub reading_more : (n : ℕ) (s : List ℕ) (ls : List Pauli) (i : ℕ) (l : Pauli) → Reading n s ls i → i < n → read_letter (get_or s i 0) ≡ Is l
+pub reading_more : (n : ℕ) (s : List ℕ) (ls : List Pauli) (i : ℕ) (l : Pauli) → Reading n s ls i → i < n → read_letter (get_or s i 0) ≡ Ok l
     → Reading n s (set ls (n - 1 - i) l) (i + 1)
 unfolding letter_of
 reading_more n s ls i l r h e =
@@ -313,7 +312,7 @@ reading_more n s ls i l r h e =
           ∙ reverse-append (map letter_of (take i s)) (letter_of (get_or s i 0) ∷ []));
       all_good =
           ap all_letters front ∙ all_snoc (take i s) (get_or s i 0)
-          ∙ ap₂ (λ (a : Bool) (b : LetterAnswer). a && good b) r.all_good e;
+          ∙ ap₂ (λ (a : Bool) (b : Result Pauli Refusal). a && good b) r.all_good e;
     }
 
 pub reading_done : (n : ℕ) (s : List ℕ) (ls : List Pauli) (i : ℕ) → Reading n s ls i → n ≤ i → (is_text n s ≡ true) × (string_of n ls ≡ spelled n s)

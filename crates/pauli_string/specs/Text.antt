@@ -1,10 +1,10 @@
 -- Letters and text. An array of letters has qubit 0 first. Text has the highest qubit first: it is the letters in reverse, printed in
 -- capitals and read in either case. Assumes nothing.
+use Rattle.std.specs.Prelude.{Result, Ok, Err}
+use Rattle.bicycle_common.specs.declared.Refusal.{Refusal}
 use Rattle.std.specs.Prelude.{Bool, true, false, ◌&&◌, List, [], ◌∷◌, map, reverse, ℕ, ◌+◌, ◌*◌, ◌^◌, length, eqb}
 use Rattle.bicycle_common.specs.declared.Pauli.{Pauli}
 use Rattle.bicycle_common.specs.declared.Pauli.TheVariants.{I}
-use Rattle.bicycle_common.specs.declared.LetterAnswer.{LetterAnswer}
-use Rattle.bicycle_common.specs.declared.LetterAnswer.TheVariants.{Is, Refused}
 use Rattle.bicycle_common.specs.Ranges.{listed}
 use Rattle.bicycle_common.specs.Letters.{x_of, z_of, capital, read_letter}
 use Rattle.pauli_string.specs.Strings.{letter_at}
@@ -30,13 +30,13 @@ string_of q ls = number z_of ls * 2 ^ q + number x_of ls
 unfoldable pub text : ℕ → ℕ → List ℕ
 text q p = map capital (reverse (letters q p))
 
-abbrev pub good : LetterAnswer → Bool
-good (Is l) = true
-good (Refused r) = false
+abbrev pub good : Result Pauli Refusal → Bool
+good (Ok l) = true
+good (Err r) = false
 
-abbrev pub the_letter : LetterAnswer → Pauli
-the_letter (Is l) = l
-the_letter (Refused r) = I
+abbrev pub the_letter : Result Pauli Refusal → Pauli
+the_letter (Ok l) = l
+the_letter (Err r) = I
 
 -- the letter that a byte stands for; I for a byte that stands for none
 unfoldable pub letter_of : ℕ → Pauli

@@ -1,7 +1,8 @@
 -- Demand 3, proved: the theorems are `demand_3` and, for the best letter on the pivot, `pivot_free_demand_3`; each is a case of laws over any
 -- number of qubits. They stand here and not beside their definitions, so that a wrong definition reads well and is refused at a theorem.
 -- Assumes nothing.
-use Rattle.std.specs.Prelude.{◌≡◌, refl, Bool, true, false, List, ℕ, ◌*◌, ◌^◌, ◌≤◌, ◌<◌, length}
+use Rattle.bicycle_common.specs.declared.Refusal.{Refusal}
+use Rattle.std.specs.Prelude.{◌≡◌, refl, Bool, true, false, List, ℕ, ◌*◌, ◌^◌, ◌≤◌, ◌<◌, length, Result}
 use Rattle.std.proofs.Common.{ap, subst, ◌∙◌, arith, lit<}
 use Rattle.std.proofs.lemmas.List.Edits.{sets}
 use Rattle.bicycle_common.specs.declared.Pauli.{Pauli}
@@ -15,7 +16,6 @@ use Rattle.table.specs.Bytes.{entry}
 use Rattle.table.specs.Entries.{depth, named}
 use Rattle.table.specs.Plans.{Nonzero, Gives}
 use Rattle.table.proofs.Plans.{sequence_reaches}
-use Rattle.lookup.specs.declared.LookupAnswer.{LookupAnswer}
 use Rattle.lookup.specs.declared.MeasurementImpl.{MeasurementImpl}
 use Rattle.lookup.specs.Walks.{bottom, rotation_at, rotations, candidate, winner}
 use Rattle.lookup.specs.Answers.{two_bytes, Lookup, Leaves, impl_by, planned, looked_up, pivot_free}
@@ -27,7 +27,7 @@ use Rattle.promises.specs.Checks.{BuiltOrAccepted, Ruled, small, ruled_table}
 use Rattle.promises.specs.Demand3.{ShortestPlan, Demand3, chosen, BestPlan, PivotFree3}
 
 -- a lookup that answers the plan of the walk from p, truly, answers a shortest plan where no sequence is shorter than the depth of p
-abbrev planned_shortest : (mx my t : List ℕ) (p : ℕ) (before : List ℕ) (r : LookupAnswer) (after : List ℕ) (o : Lookup) → Leaves o before r after
+abbrev planned_shortest : (mx my t : List ℕ) (p : ℕ) (before : List ℕ) (r : Result MeasurementImpl Refusal) (after : List ℕ) (o : Lookup) → Leaves o before r after
     → o ≡ planned qubits (pair_string side mx my) (entry t) p → Truly qubits (pair_string side mx my) p o
     → ((b : ℕ) (ns : List ℕ) → Gives qubits (pair_string side mx my) b ns p → depth (entry t p) ≤ length ns) → ShortestPlan mx my p before r after
 planned_shortest mx my t p before r after o w z true_plan least =
@@ -55,7 +55,7 @@ module _ (mx my t : List ℕ) (ok : BuiltOrAccepted mx my t) where
 
   -- either lookup
   abbrev shortest : (any : Bool) (p : ℕ) → Askable any qubits p → Has (entry t) (winner any qubits (entry t) p) → (before : List ℕ)
-      → 2 * depth (entry t (winner any qubits (entry t) p)) ≤ length before → (r : LookupAnswer) (after : List ℕ)
+      → 2 * depth (entry t (winner any qubits (entry t) p)) ≤ length before → (r : Result MeasurementImpl Refusal) (after : List ℕ)
       → Leaves (looked_up any qubits side t mx my p (length before)) before r after → ShortestPlan mx my (winner any qubits (entry t) p) before r after
   shortest any p a h before room r after w =
       let e = entry t in
@@ -82,7 +82,7 @@ module _ (mx my t : List ℕ) (ok : BuiltOrAccepted mx my t) where
     no_more Z i h = best_least_second (entry t) (candidate qubits p X) (candidate qubits p Z) (candidate qubits p Y) h
     no_more Y i h = best_least_third (entry t) (candidate qubits p X) (candidate qubits p Z) (candidate qubits p Y) h
 
-    best_plan : Has (entry t) (chosen t p) → (before : List ℕ) → 2 * depth (entry t (chosen t p)) ≤ length before → (r : LookupAnswer) (after : List ℕ)
+    best_plan : Has (entry t) (chosen t p) → (before : List ℕ) → 2 * depth (entry t (chosen t p)) ≤ length before → (r : Result MeasurementImpl Refusal) (after : List ℕ)
         → Leaves (pivot_free qubits side t mx my p (length before)) before r after → BestPlan mx my t p before r after
     best_plan h before room r after w = record {
       shortest = shortest true p (below, free) h before room r after w;

@@ -1,8 +1,9 @@
 -- Tables that were built for a pair, and tables that the check accepts for it: of both every index meets its rule. Ties are free, and the check
 -- refuses by 1 and 3. Assumes nothing.
-use Rattle.std.specs.Prelude.{◌≡◌, refl, true, false, ◌&&◌, ◌⊎◌, List, ℕ, ◌^◌, ◌≤◌, ◌<◌, length}
+use Rattle.bicycle_common.specs.declared.Refusal.{Refusal}
+use Rattle.pauli_string.specs.declared.PauliString.{PauliString}
+use Rattle.std.specs.Prelude.{◌≡◌, refl, true, false, ◌&&◌, ◌⊎◌, List, ℕ, ◌^◌, ◌≤◌, ◌<◌, length, Option, None, Result, Ok, Err}
 use Rattle.std.proofs.Common.{sym, ap, subst, ◌∙◌, ⊎_elim, arith, lit<}
-use Rattle.bicycle_common.specs.declared.Outcome.TheVariants.{Done}
 use Rattle.bicycle_common.specs.declared.Refusal.TheVariants.{TableLength, Matrix}
 use Rattle.bicycle_common.specs.Refusals.{refused}
 use Rattle.pauli_string.specs.Strings.{qubits}
@@ -20,11 +21,8 @@ use Rattle.discovery.specs.Model.{built}
 use Rattle.discovery.specs.States.{twelve}
 use Rattle.discovery.proofs.Meets as Meets
 use Rattle.builder.specs.declared.Built.{Built}
-use Rattle.builder.specs.declared.BuildAnswer.TheVariants.{Is as WasBuilt}
 use Rattle.builder.specs.Answers.{After, done, build}
 use Rattle.builder.proofs.Answers.{all_right, answered_built}
-use Rattle.table_check.specs.declared.CheckAnswer.{CheckAnswer}
-use Rattle.table_check.specs.declared.CheckAnswer.TheVariants.{Accepted, Refused}
 use Rattle.table_check.specs.Answers.{Checked, told_check}
 use Rattle.table_check.proofs.Answers.{checked_one}
 
@@ -33,12 +31,12 @@ pub record BuiltFor (mx my t : List ℕ) : Type 0 where
   pub table : List ℕ
   pub queue : List ℕ
   pub told : Built
-  pub answers : (build qubits side table queue mx my).answer ≡ WasBuilt told
+  pub answers : (build qubits side table queue mx my).answer ≡ Ok told
   pub leaves : (build qubits side table queue mx my).table ≡ t
 
 -- t is accepted by the table check for the pair
 abbrev pub AcceptedFor : List ℕ → List ℕ → List ℕ → Type 0
-AcceptedFor mx my t = Checked qubits side t mx my Accepted
+AcceptedFor mx my t = Checked qubits side t mx my (Ok None)
 
 abbrev pub BuiltOrAccepted : List ℕ → List ℕ → List ℕ → Type 0
 BuiltOrAccepted mx my t = BuiltFor mx my t ⊎ AcceptedFor mx my t
@@ -47,7 +45,7 @@ BuiltOrAccepted mx my t = BuiltFor mx my t ⊎ AcceptedFor mx my t
 
 -- a table of the pair, of which every index meets its rule
 pub record Ruled (mx my t : List ℕ) : Type 0 where
-  pub is_given : given qubits side t mx my ≡ Done
+  pub is_given : given qubits side t mx my ≡ Ok tt
   pub ruled : (p : ℕ) → p < 4 ^ qubits → Rule qubits (pair_string side mx my) (entry t) p
 
 pub small : (mx my : List ℕ) (n : ℕ) → pair_string side mx my n < 4 ^ qubits
@@ -83,13 +81,13 @@ every_pair_is_built t u mx my a b x y =
     }
 
 -- and the check accepts it
-pub built_is_accepted : (mx my t : List ℕ) → BuiltFor mx my t → (a : CheckAnswer) → Checked qubits side t mx my a → a ≡ Accepted
+pub built_is_accepted : (mx my t : List ℕ) → BuiltFor mx my t → (a : Result (Option PauliString) Refusal) → Checked qubits side t mx my a → a ≡ Ok None
 built_is_accepted mx my t b a c =
     let r = built_ruled mx my t b in
-    checked_one qubits side t mx my a Accepted c (record { done = r.is_given; every = r.ruled })
+    checked_one qubits side t mx my a (Ok None) c (record { done = r.is_given; every = r.ruled })
 
 -- the check's contract permits one answer
-pub check_one : (t mx my : List ℕ) (a b : CheckAnswer) → Checked qubits side t mx my a → Checked qubits side t mx my b → a ≡ b
+pub check_one : (t mx my : List ℕ) (a b : Result (Option PauliString) Refusal) → Checked qubits side t mx my a → Checked qubits side t mx my b → a ≡ b
 check_one = checked_one qubits side
 
 -- ---- ties are free
@@ -132,10 +130,10 @@ ties_are_free mx my e e' ok tied p h =
 
 -- ---- refusals
 
-module _ (t mx my : List ℕ) (a : CheckAnswer) (c : Checked qubits side t mx my a) where
+module _ (t mx my : List ℕ) (a : Result (Option PauliString) Refusal) (c : Checked qubits side t mx my a) where
   -- 1 before 3
   pub no_table_1 : is_table qubits t ≡ false → told_check a ≡ refused 2 TableLength
-  no_table_1 e = ap told_check (checked_one qubits side t mx my a (Refused TableLength) c (rw e))
+  no_table_1 e = ap told_check (checked_one qubits side t mx my a (Err TableLength) c (rw e))
 
   pub no_matrix_3 : is_table qubits t ≡ true → (is_bytes side mx && is_bytes side my) ≡ false → told_check a ≡ refused 2 Matrix
-  no_matrix_3 e x = ap told_check (checked_one qubits side t mx my a (Refused Matrix) c (rw (e, x)))
+  no_matrix_3 e x = ap told_check (checked_one qubits side t mx my a (Err Matrix) c (rw (e, x)))

@@ -1,6 +1,8 @@
 -- What is promised of expansions: a native expands to aut, meas, inverse aut; a rotation adds one meas before and one after, with the two
 -- letters that anticommute with its string's pivot letter; and each refusal is given exactly where document 01 says. Assumes nothing.
-use Rattle.std.specs.Prelude.{true, false, not, ◌&&◌, List, ◌≡◌, refl, ℕ, ◌≤◌, ◌<◌}
+use Rattle.bicycle_common.specs.declared.BicycleISA.{BicycleISA}
+use Rattle.bicycle_common.specs.declared.Refusal.{Refusal}
+use Rattle.std.specs.Prelude.{true, false, not, ◌&&◌, List, [], ◌∷◌, ◌≡◌, refl, ℕ, ◌≤◌, ◌<◌, Result, Ok, Err}
 use Rattle.std.proofs.Common.{true≢false, ◌∙◌, arith}
 use Rattle.std.proofs.Math.Path.{sym, ap, subst}
 use borrow.Author.Tests.{lt-ltb, le-ltb}
@@ -12,24 +14,19 @@ use Rattle.bicycle_common.specs.Refusals.{refused}
 use Rattle.bicycle_common.specs.Letters.{is_i, rank, same, clash, anticommuting_letters}
 use Rattle.bicycle_common.specs.Automorphisms.{inverse}
 use Rattle.pauli_string.specs.Strings.{qubits, letter_at, has_pivot}
-use Rattle.pauli_string.specs.declared.StringAnswer.TheVariants.{Is as StringIs}
-use Rattle.native_measurement.specs.declared.ImplementationAnswer.{ImplementationAnswer}
-use Rattle.native_measurement.specs.declared.ImplementationAnswer.TheVariants.{Is as Three}
 use Rattle.native_measurement.specs.Natives.{natives, native_of}
 use Rattle.native_measurement.specs.Answers.{implementation_at, told_implementation}
 use Rattle.measurement.specs.Matrices.{side, is_bytes}
 use Rattle.measurement.specs.Measures.{pair_string}
 use Rattle.measurement.specs.Answers.{measures_bytes}
-use Rattle.compile.specs.declared.RotationAnswer.{RotationAnswer}
-use Rattle.compile.specs.declared.RotationAnswer.TheVariants.{Is as Five, Refused as NoRotation}
 use Rattle.compile.proofs.Expansions.{with_string}
 use Rattle.compile.specs.Expansions.{alone, around, rotation_by, rotation_instructions, told_rotation}
 
 -- ---- a native
 
 -- aut, meas, inverse aut
-abbrev pub three : ℕ → ImplementationAnswer
-three n = Three (Automorphism (native_of n).automorphism) (Measure (native_of n).logical) (Automorphism (inverse (native_of n).automorphism))
+abbrev pub three : ℕ → Result (List BicycleISA) Refusal
+three n = Ok (Automorphism (native_of n).automorphism ∷ Measure (native_of n).logical ∷ Automorphism (inverse (native_of n).automorphism) ∷ [])
 
 pub native_expands : (n : ℕ) → n < natives → implementation_at n ≡ three n
 native_expands n h = simp (lt-ltb n natives h)
@@ -47,14 +44,15 @@ pub record TwoLetters (l p0 p1 : Pauli) : Type 0 where
   pub ordered : rank p0 < rank p1
 
 -- the rotation r by native n is the native's instructions between a meas of one letter and a meas of the other, on the first pivot alone
-pub record Expands (n : ℕ) (l : Pauli) (r : RotationAnswer) : Type 0 where
+pub record Expands (n : ℕ) (l : Pauli) (r : Result (List BicycleISA) Refusal) : Type 0 where
   pub before : Pauli
   pub after : Pauli
   pub letters : TwoLetters l before after
-  pub instructions : r ≡ Five (alone before) (Automorphism (native_of n).automorphism) (Measure (native_of n).logical) (Automorphism (inverse (native_of n).automorphism)) (alone after)
+  pub instructions : r
+      ≡ Ok (alone before ∷ Automorphism (native_of n).automorphism ∷ Measure (native_of n).logical ∷ Automorphism (inverse (native_of n).automorphism) ∷ alone after ∷ [])
 
 -- by the pivot letter
-without_letter : (i : ImplementationAnswer) (l : Pauli) → not (is_i l) ≡ false → around (anticommuting_letters l) i ≡ NoRotation PivotIdentity
+without_letter : (i : Result (List BicycleISA) Refusal) (l : Pauli) → not (is_i l) ≡ false → around (anticommuting_letters l) i ≡ Err PivotIdentity
 without_letter i I e = refl
 without_letter i X e = absurd (true≢false e)
 without_letter i Z e = absurd (true≢false e)
@@ -72,7 +70,7 @@ module _ (mx my : List ℕ) (n : ℕ) where
   abbrev string : ℕ
   string = pair_string side mx my n
 
-  abbrev rotation : RotationAnswer
+  abbrev rotation : Result (List BicycleISA) Refusal
   rotation = rotation_instructions qubits side mx my n
 
   -- 3 where one of the two is no matrix
@@ -90,7 +88,7 @@ module _ (mx my : List ℕ) (n : ℕ) where
       by_string : rotation ≡ around (anticommuting_letters (letter_at qubits string 0)) (implementation_at n)
       unfolding rotation_by
       by_string =
-          let e : measures_bytes side mx my n ≡ StringIs (record { 0 = string }) = rw (good, lt-ltb n natives h) in
+          let e : measures_bytes side mx my n ≡ Ok (record { 0 = string }) = rw (good, lt-ltb n natives h) in
           sym (with_string qubits side mx my n (record { 0 = string }) e)
 
       -- or 10 where its string has no letter on the pivot

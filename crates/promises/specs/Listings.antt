@@ -1,15 +1,13 @@
 -- What is promised of plans and their listings: document 01's own example and an input for each refusal; which line decides; what is read is a
 -- true plan; what a plan measures; a listing states its plan again; and how much of an input matters. That the worked inputs print what stands
 -- here, and that `plan` prints the whole output, is proved in `proofs/Listings.antt`. Assumes nothing.
-use Rattle.std.specs.Prelude.{List, [], ◌∷◌, ◌++◌, ◌≡◌, ℕ, ◌+◌, ◌*◌, ◌<◌, ◌≤◌, length, take, drop}
+use Rattle.std.specs.Prelude.{List, [], ◌∷◌, ◌++◌, ◌≡◌, ℕ, ◌+◌, ◌*◌, ◌<◌, ◌≤◌, length, take, drop, Result, Ok, Err}
 use Rattle.std.proofs.Common.{ap, ◌∙◌, arith, lt-ltb}
 use Prim.Native.String.{String}
 use Rattle.bicycle_common.specs.declared.Refusal.{Refusal}
 use Rattle.bicycle_common.specs.declared.Refusal.TheVariants.{Identity, Room, PlanInput}
 use Rattle.bicycle_common.specs.Refusals.{refused}
 use Rattle.bicycle_common.specs.Bytes.{bytes_of}
-use Rattle.text.specs.declared.WriteAnswer.{WriteAnswer}
-use Rattle.text.specs.Reads.{Read, good, bad}
 use Rattle.text.specs.Fronts.{Written, told_write}
 use Rattle.pauli_string.specs.Strings.{qubits}
 use Rattle.native_measurement.specs.declared.NativeNumber.{NativeNumber}
@@ -17,7 +15,7 @@ use Rattle.measurement.specs.declared.CodeMeasurement.{CodeMeasurement}
 use Rattle.table.specs.Plans.{Gives}
 use Rattle.reader.specs.Lines.{newline, lines, line_at}
 use Rattle.reader.specs.Plans.{Plan, strings_of, numbers, measured_by, measured, most_rotations, matrix_line, native_line, rotation_line, rotation_lines, plan_from, native_lines, read_lines, read_plan}
-use Rattle.reader.specs.Answers.{plan_answer, told_plan}
+use Rattle.reader.specs.Answers.{stated as stated_plan, told_plan}
 use Rattle.reader.proofs.First.{bad_behind, full_behind}
 use Rattle.reader.proofs.Sound.{read_gives}
 use Rattle.reader.proofs.Measured.{measures_zero, zero_base}
@@ -87,60 +85,60 @@ module _ (s : List ℕ) where
   turns = drop 1 bases
 
   -- the first line, whatever follows it
-  pub first_decides : (r : Refusal) → matrix_line (bytes_of "mx=") (line_at 0 (lines s)) ≡ bad r → read_plan s ≡ bad r
+  pub first_decides : (r : Refusal) → matrix_line (bytes_of "mx=") (line_at 0 (lines s)) ≡ Err r → read_plan s ≡ Err r
   unfolding read_plan read_lines
   first_decides r e = rw e
 
-  module _ (mx : List ℕ) (x : matrix_line (bytes_of "mx=") (line_at 0 (lines s)) ≡ good mx) where
+  module _ (mx : List ℕ) (x : matrix_line (bytes_of "mx=") (line_at 0 (lines s)) ≡ Ok mx) where
     -- the second, where the first is good
-    pub second_decides : (r : Refusal) → matrix_line (bytes_of "my=") (line_at 1 (lines s)) ≡ bad r → read_plan s ≡ bad r
+    pub second_decides : (r : Refusal) → matrix_line (bytes_of "my=") (line_at 1 (lines s)) ≡ Err r → read_plan s ≡ Err r
     unfolding read_plan read_lines
     second_decides r e = rw (x, e)
 
-    module _ (my : List ℕ) (y : matrix_line (bytes_of "my=") (line_at 1 (lines s)) ≡ good my) where
+    module _ (my : List ℕ) (y : matrix_line (bytes_of "my=") (line_at 1 (lines s)) ≡ Ok my) where
       abbrev pair : CodeMeasurement
       pair = record { mx = mx; my = my }
 
       -- the third, where these are
-      pub third_decides : (r : Refusal) → native_line (bytes_of "base=") (line_at 0 bases) ≡ bad r → read_plan s ≡ bad r
+      pub third_decides : (r : Refusal) → native_line (bytes_of "base=") (line_at 0 bases) ≡ Err r → read_plan s ≡ Err r
       unfolding read_plan read_lines native_lines
       third_decides r e = rw (x, y, e)
 
-      module _ (base : NativeNumber) (b : native_line (bytes_of "base=") (line_at 0 bases) ≡ good base) where
+      module _ (base : NativeNumber) (b : native_line (bytes_of "base=") (line_at 0 bases) ≡ Ok base) where
         -- the first bad one of the others, among the first 256 of them
         pub rotation_decides : (before after : List (List ℕ)) (l : List ℕ) (ns : List NativeNumber) (r : Refusal) → turns ≡ before ++ l ∷ after → length before < most_rotations
-            → rotation_lines (strings_of pair) (length before) before ≡ good ns → rotation_line (strings_of pair) l ≡ bad r → read_plan s ≡ bad r
+            → rotation_lines (strings_of pair) (length before) before ≡ Ok ns → rotation_line (strings_of pair) l ≡ Err r → read_plan s ≡ Err r
         unfolding read_plan read_lines native_lines plan_from
         rotation_decides before after l ns r t h g e =
-            let d : rotation_lines (strings_of pair) most_rotations turns ≡ bad r = rw t (bad_behind (strings_of pair) after l before ns r most_rotations h g e) in
+            let d : rotation_lines (strings_of pair) most_rotations turns ≡ Err r = rw t (bad_behind (strings_of pair) after l before ns r most_rotations h g e) in
             rw (x, y, b, d)
 
         -- a 257th gives 12, whatever it says
         pub one_too_many : (before after : List (List ℕ)) (l : List ℕ) (ns : List NativeNumber) → turns ≡ before ++ l ∷ after → length before ≡ most_rotations
-            → rotation_lines (strings_of pair) (length before) before ≡ good ns → read_plan s ≡ bad PlanInput
+            → rotation_lines (strings_of pair) (length before) before ≡ Ok ns → read_plan s ≡ Err PlanInput
         unfolding read_plan read_lines native_lines plan_from
         one_too_many before after l ns t h g =
-            let d : rotation_lines (strings_of pair) most_rotations turns ≡ bad PlanInput = rw (t, ← h) (full_behind (strings_of pair) after l before ns g) in
+            let d : rotation_lines (strings_of pair) most_rotations turns ≡ Err PlanInput = rw (t, ← h) (full_behind (strings_of pair) after l before ns g) in
             rw (x, y, b, d)
 
         -- 5 where every line is good
-        pub good_measures_0 : (ns : List NativeNumber) → rotation_lines (strings_of pair) most_rotations turns ≡ good ns → measured_by (strings_of pair) base ns ≡ 0 → read_plan s ≡ bad Identity
+        pub good_measures_0 : (ns : List NativeNumber) → rotation_lines (strings_of pair) most_rotations turns ≡ Ok ns → measured_by (strings_of pair) base ns ≡ 0 → read_plan s ≡ Err Identity
         unfolding read_plan read_lines native_lines plan_from
         good_measures_0 ns d z = rw (x, y, b, d, z)
 
 -- a plan that is refused carries zeros: two matrices, the base, what is measured, the count, the rotations
-pub refused_plan : (s : List ℕ) (r : Refusal) → read_plan s ≡ bad r → told_plan (plan_answer (read_plan s)) ≡ refused (36 + 36 + 3 + 256) r
-refused_plan s r e = ap (λ (x : Read Plan). told_plan (plan_answer x)) e
+pub refused_plan : (s : List ℕ) (r : Refusal) → read_plan s ≡ Err r → told_plan (stated_plan (read_plan s)) ≡ refused (36 + 36 + 3 + 256) r
+refused_plan s r e = ap (λ (x : Result Plan Refusal). told_plan (stated_plan x)) e
 
 -- ---- what is read
 
-module _ (s : List ℕ) (p : Plan) (e : read_plan s ≡ good p) where
+module _ (s : List ℕ) (p : Plan) (e : read_plan s ≡ Ok p) where
   -- the base is a native, the rotations are natives with pivot support, and applied in order to the base they give what is measured
   pub plan_is_true : Gives qubits (strings_of p.pair) p.base.0 (numbers p.rotations) (measured p)
   plan_is_true = read_gives s p e
 
   -- the listing's own `base=` and `rotation=` lines, put behind the matrices, are read back to the same plan
-  pub stated_again : read_plan (matrices s ++ stated (output s)) ≡ good p
+  pub stated_again : read_plan (matrices s ++ stated (output s)) ≡ Ok p
   stated_again = read_back s p e
 
   -- and print the same listing
@@ -174,7 +172,7 @@ pub longest_output : (s : List ℕ) → length (output s) ≤ 17496
 longest_output = output_length
 
 -- 9 where there is no room for all of it, with the length needed; the buffer is as it was
-module _ (s out after : List ℕ) (r : WriteAnswer) (w : Written (good (output s)) out r after) (h : length out < length (output s)) where
+module _ (s out after : List ℕ) (r : Result ℕ Refusal) (w : Written (Ok (output s)) out r after) (h : length out < length (output s)) where
   pub no_room_9 : told_write r ≡ refused 1 (Room (length (output s)))
   no_room_9 = ap told_write w.answer ∙ simp (lt-ltb (length out) (length (output s)) h)
 

@@ -1,6 +1,7 @@
 -- What else the lookups promise: a true plan on any table, each refusal exactly where document 01 says, no refusal 8 on a table that was
 -- built or accepted, and there string 1 for the pivot-free lookup of 0. Assumes nothing.
-use Rattle.std.specs.Prelude.{◌≡◌, Bool, false, ◌&&◌, List, [], ℕ, ◌*◌, ◌^◌, ◌≤◌, ◌<◌, length}
+use Rattle.bicycle_common.specs.declared.Refusal.{Refusal}
+use Rattle.std.specs.Prelude.{◌≡◌, Bool, false, ◌&&◌, List, [], ℕ, ◌*◌, ◌^◌, ◌≤◌, ◌<◌, length, Result, Ok}
 use Rattle.std.proofs.Math.Path.{refl, ap}
 use Rattle.std.proofs.Common.{sym, subst, ◌∙◌, arith, lit<}
 use Rattle.std.proofs.Math.Bool.{true}
@@ -8,7 +9,6 @@ use Rattle.std.proofs.Math.Decide.{ℕ_discrete, dec_lt}
 use Rattle.std.proofs.lemmas.List.Edits.{sets}
 use Rattle.bicycle_common.specs.declared.Pauli.TheVariants.{X, Z, Y}
 use Rattle.bicycle_common.specs.declared.Refusal.TheVariants.{TableLength, Matrix, StringRange, Identity, PivotSet, NoEntry, BadEntry, Room}
-use Rattle.bicycle_common.specs.declared.Outcome.TheVariants.{Done}
 use Rattle.bicycle_common.specs.Refusals.{Told, refused}
 use Rattle.pauli_string.specs.Strings.{qubits, bit, letter_at, set_bit, set_letter, has_pivot}
 use Rattle.pauli_string.proofs.Range.{is_string_law, no_string}
@@ -21,8 +21,6 @@ use Rattle.table.specs.Bytes.{entry}
 use Rattle.table.specs.Entries.{depth, Names, named}
 use Rattle.table.specs.Answers.{is_table, given}
 use Rattle.table.proofs.Rules.{kept_for_law}
-use Rattle.lookup.specs.declared.LookupAnswer.{LookupAnswer}
-use Rattle.lookup.specs.declared.LookupAnswer.TheVariants.{Is}
 use Rattle.lookup.specs.declared.MeasurementImpl.{MeasurementImpl}
 use Rattle.lookup.specs.Walks.{candidate, better, best, missing, judged, winner}
 use Rattle.lookup.specs.Answers.{told_lookup, two_bytes, Lookup, Leaves, plan_by, planned, sought, looked_up, exact, pivot_free}
@@ -43,21 +41,21 @@ pub record TruePlan (mx my : List ℕ) (p : ℕ) (before : List ℕ) (m : Measur
   pub buffer : after ≡ sets before 0 (two_bytes rotations)
 
 module _ (mx my t : List ℕ) (p : ℕ) (before : List ℕ) (m : MeasurementImpl) (after : List ℕ) where
-  true_plan : (x : ℕ) (o : Lookup) → Truly qubits (pair_string side mx my) x o → Leaves o before (Is m) after → TruePlan mx my x before m after
+  true_plan : (x : ℕ) (o : Lookup) → Truly qubits (pair_string side mx my) x o → Leaves o before (Ok m) after → TruePlan mx my x before m after
   true_plan x o h w = record {
     rotations = o.written;
     implements = subst (AnswersTruly qubits (pair_string side mx my) x o.written) (sym w.answer) h;
     buffer = w.buffer;
   }
 
-  pub exact_is_true : Leaves (exact qubits side t mx my p (length before)) before (Is m) after → TruePlan mx my p before m after
+  pub exact_is_true : Leaves (exact qubits side t mx my p (length before)) before (Ok m) after → TruePlan mx my p before m after
   exact_is_true = true_plan p (exact qubits side t mx my p (length before)) (looked_up_true false qubits side t mx my p (length before))
 
-  pub pivot_free_is_true : Leaves (pivot_free qubits side t mx my p (length before)) before (Is m) after → TruePlan mx my (chosen t p) before m after
+  pub pivot_free_is_true : Leaves (pivot_free qubits side t mx my p (length before)) before (Ok m) after → TruePlan mx my (chosen t p) before m after
   pivot_free_is_true = true_plan (chosen t p) (pivot_free qubits side t mx my p (length before)) (looked_up_true true qubits side t mx my p (length before))
 
 -- a lookup's contract permits one answer and one buffer
-pub lookup_one : (o : Lookup) (before : List ℕ) (r r' : LookupAnswer) (after after' : List ℕ) → Leaves o before r after → Leaves o before r' after'
+pub lookup_one : (o : Lookup) (before : List ℕ) (r r' : Result MeasurementImpl Refusal) (after after' : List ℕ) → Leaves o before r after → Leaves o before r' after'
     → (r ≡ r') × (after ≡ after')
 lookup_one o before r r' after after' a b = (a.answer ∙ sym b.answer, a.buffer ∙ sym b.buffer)
 
@@ -162,7 +160,7 @@ module _ (mx my t : List ℕ) (p room : ℕ) where
   pub no_matrix_3 : is_table qubits t ≡ true → (is_bytes side mx && is_bytes side my) ≡ false → (exactly ≡ refused 4 Matrix) × (freely ≡ refused 4 Matrix)
   no_matrix_3 e x = (same_told (not_given false qubits side t mx my p room Matrix (rw (e, x))), same_told (not_given true qubits side t mx my p room Matrix (rw (e, x))))
 
-  module _ (g : given qubits side t mx my ≡ Done) where
+  module _ (g : given qubits side t mx my ≡ Ok tt) where
     pub no_string_4 : 4 ^ qubits ≤ p → (exactly ≡ refused 4 StringRange) × (freely ≡ refused 4 StringRange)
     no_string_4 h =
         (same_told (not_string false qubits side t mx my p room g (no_string qubits p h)), same_told (not_string true qubits side t mx my p room g (no_string qubits p h)))

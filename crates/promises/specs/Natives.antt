@@ -1,10 +1,9 @@
 -- What holds of native measurements, their numbers, their strings and which are kept, at the side of the architecture's matrices. Each is a
 -- case of a law in `native_measurement`, `measurement` or `natives`, over any side where the side matters. Assumes nothing.
-use Rattle.std.specs.Prelude.{◌≡◌, refl, false, ◌&&◌, List, ℕ, ◌+◌, ◌^◌, ◌<◌, ◌≤◌}
+use Rattle.std.specs.Prelude.{◌≡◌, refl, false, ◌&&◌, List, ℕ, ◌+◌, ◌^◌, ◌<◌, ◌≤◌, Some}
 use Rattle.std.proofs.Common.{lit<, le-ltb}
 use Rattle.bicycle_common.specs.declared.Pauli.{Pauli}
 use Rattle.bicycle_common.specs.declared.TwoBases.{TwoBases}
-use Rattle.bicycle_common.specs.declared.TwoBasesAnswer.TheVariants.{Is}
 use Rattle.bicycle_common.specs.Letters.{bases_of}
 use Rattle.bicycle_common.specs.Automorphisms.{of_pair}
 use Rattle.bicycle_common.specs.Ranges.{listed}
@@ -29,7 +28,7 @@ pub number_of_native : (n : ℕ) → n < natives → number_of (native_of n) ≡
 number_of_native n h = Natives.number_native n h
 
 -- and the other way round, for whatever the constructors of two bases and of an automorphism give
-pub native_of_number : (p1 p7 : Pauli) (x y : ℕ) (b : TwoBases) → bases_of p1 p7 ≡ Is b
+pub native_of_number : (p1 p7 : Pauli) (x y : ℕ) (b : TwoBases) → bases_of p1 p7 ≡ Some b
     → native_of (number_of (record { logical = b; automorphism = of_pair x y })) ≡ record { logical = b; automorphism = of_pair x y }
 native_of_number p1 p7 x y b e = Natives.native_number p1 p7 x y b e
 

@@ -1,6 +1,6 @@
 -- What holds of strings, letters and text, at the twelve qubits of the architecture. Each is a case of a law over any number of
 -- qubits, in `pauli_string`. Assumes nothing.
-use Rattle.std.specs.Prelude.{◌≡◌, refl, true, false, ◌↔◌, List, map, reverse, ℕ, ◌^◌, ◌<◌, length}
+use Rattle.std.specs.Prelude.{◌≡◌, refl, true, false, ◌↔◌, List, map, reverse, ℕ, ◌^◌, ◌<◌, length, Err}
 use Rattle.std.proofs.Common.{sym, ap, subst, ◌∙◌, lit<}
 use Rattle.std.specs.Bool.{beq}
 use Rattle.std.specs.Int.Bits.{bit_xor}
@@ -8,7 +8,6 @@ use Rattle.bicycle_common.specs.declared.Pauli.{Pauli}
 use Rattle.bicycle_common.specs.declared.Refusal.TheVariants.{NotLetters}
 use Rattle.bicycle_common.specs.Bytes.{bytes_of, upper}
 use Rattle.bicycle_common.specs.Letters.{read_letter}
-use Rattle.pauli_string.specs.declared.StringAnswer.TheVariants.{Refused}
 use Rattle.pauli_string.specs.Strings.{qubits, letter_at, commute, conj, has_pivot, rotate, logical_bits, rotation_of}
 use Rattle.pauli_string.specs.Text.{letters, number, string_of, text, letter_of, all_letters, is_text, spelled}
 use Rattle.pauli_string.specs.Answers.{string, read_text}
@@ -99,5 +98,5 @@ module _ (s : List ℕ) (p : ℕ) (read : read_text qubits s ≡ string p) where
       (λ e. both.0 (Text.string_inj (string_of qubits (reverse (letters qubits p))) p (sym mirrored ∙ e)), λ e. mirrored ∙ ap string (both.1 e))
 
 -- a text that is refused is refused backwards too
-pub mirrored_is_refused : (s : List ℕ) → read_text qubits s ≡ Refused NotLetters → read_text qubits (reverse s) ≡ Refused NotLetters
+pub mirrored_is_refused : (s : List ℕ) → read_text qubits s ≡ Err NotLetters → read_text qubits (reverse s) ≡ Err NotLetters
 mirrored_is_refused s e = Text.read_bad qubits (reverse s) (Text.mirror_text qubits s ∙ Text.refused_as qubits s e)

@@ -1,5 +1,6 @@
 -- What is written is read again: a text of whole lines has these lines, a line has its name and its value, and a native's line has the native.
 -- Assumes nothing.
+use Rattle.std.specs.Prelude.{Ok}
 use mathlib.Core.Bool.{true, ◌&&◌, and-eq-true_iff, true≢false}
 use mathlib.Core.List.{List, [], ◌∷◌, ◌++◌, map, flatten, append_assoc}
 use mathlib.Core.Path.{◌≡◌, refl, sym, ap, ◌∙◌}
@@ -18,7 +19,6 @@ use Rattle.native_measurement.specs.declared.NativeNumber.{NativeNumber}
 use Rattle.native_measurement.specs.Natives.{natives}
 use Rattle.table.specs.Plans.{All, Supported}
 use Rattle.reader.specs.Lines.{newline, grow, lines, begins, is_line, value_in}
-use Rattle.text.specs.Reads.{good}
 use Rattle.reader.specs.Plans.{numbers, native_line, rotation_line, rotation_lines}
 
 -- ---- whole lines
@@ -32,7 +32,6 @@ plain_append [] w h g = g
 plain_append (b ∷ v) w h g = (h.0, plain_append v w h.1 g)
 
 pub digits_plain : (v : List ℕ) → all_digits v ≡ true → Plain v
-unfolding all_digits
 digits_plain [] e = tt
 digits_plain (b ∷ v) e =
     let t = (and-eq-true_iff (is_digit b) (all_digits v)).0 e in
@@ -129,19 +128,19 @@ module _ (name v : List ℕ) where
 abbrev pub stating : String → NativeNumber → List ℕ
 stating name n = bytes_of name ++ decimal n.0 ++ newline ∷ []
 
-pub native_again : (name : String) (n : NativeNumber) → n.0 < natives → native_line (bytes_of name) (stating name n) ≡ good n
+pub native_again : (name : String) (n : NativeNumber) → n.0 < natives → native_line (bytes_of name) (stating name n) ≡ Ok n
 unfolding native_line
 native_again name n h =
     let v = value_is_law (bytes_of name) (decimal n.0) in
     rw (is_line_law (bytes_of name) (decimal n.0), v, decimal_number n.0 (omega arith), number_decimal n.0, lt-ltb n.0 natives h)
 
 module _ (f : ℕ → ℕ) where
-  rotation_again : (n : NativeNumber) → Supported qubits f n.0 → rotation_line f (stating "rotation=" n) ≡ good n
+  rotation_again : (n : NativeNumber) → Supported qubits f n.0 → rotation_line f (stating "rotation=" n) ≡ Ok n
   unfolding rotation_line
   rotation_again n h = rw (native_again "rotation=" n h.0, h.1)
 
   pub rotations_again : (k : ℕ) (ns : List NativeNumber) → All (Supported qubits f) (numbers ns) → length ns ≤ k
-      → rotation_lines f k (map (stating "rotation=") ns) ≡ good ns
+      → rotation_lines f k (map (stating "rotation=") ns) ≡ Ok ns
   unfolding rotation_lines
   rotations_again k [] a h = refl
   rotations_again zero (n ∷ ns) a h = absurd (omega arith)

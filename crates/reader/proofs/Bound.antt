@@ -1,5 +1,7 @@
 -- The text of a plan has at most 3,417 bytes, which are 40 + 40 + 9 + 256 * 13, and the first 3,418 bytes of any text decide what is read: a
 -- line that is too long is bad, and so is one line more. Assumes nothing.
+use Rattle.std.specs.Prelude.{Result, Ok, Err}
+use Rattle.bicycle_common.specs.declared.Refusal.{Refusal}
 use mathlib.Core.Path.{◌≡◌, refl, ap, sym, ◌∙◌}
 use mathlib.Core.Bool.{Bool, true, false, cond, and-false}
 use mathlib.Core.List.{List, [], ◌∷◌}
@@ -8,7 +10,7 @@ use Prim.Native.Nat.{ℕ, zero, suc, ◌+◌, ◌-◌, ◌*◌, ◌≤◌, ◌<�
 use native.Mathlib.Omega.{arith}
 use lib.Dec.{eqb, leb}
 use lib.ListN.{length, take, drop, length-take, length-drop}
-use lib.Seq.{take-nil, take-take, length-take-le, get_or-drop, drop-drop}
+use lib.Seq.{take-nil, take-take, length-take-le}
 use borrow.Author.Tests.{lt-leb, ne_eqb}
 use Rattle.bicycle_common.specs.declared.Refusal.TheVariants.{PlanInput}
 use Rattle.bicycle_common.specs.Bytes.{bytes_of}
@@ -16,11 +18,12 @@ use Rattle.bicycle_common.proofs.Ranges.{lt_or_ge}
 use Rattle.text.specs.Decimals.{is_number}
 use Rattle.native_measurement.specs.declared.NativeNumber.{NativeNumber}
 use Rattle.measurement.specs.declared.CodeMeasurement.{CodeMeasurement}
-use Rattle.reader.specs.Lines.{newline, lines, line_at, line_length, is_line, value_in}
-use Rattle.text.specs.Reads.{Read, good, bad, on}
-use Rattle.reader.specs.Plans.{Plan, strings_of, most_rotations, matrix_line, native_line, supported, rotation_line, rotation_lines, plan_from, native_lines, read_lines, read_plan}
+use Rattle.reader.specs.Lines.{newline, lines, line_length, is_line, value_in}
+use Rattle.text.specs.Reads.{on}
+use Rattle.reader.specs.Plans.{Plan, strings_of, most_rotations, matrix_line, native_line, supported, rotation_line, rotation_lines, plan_from, native_lines, read_plan}
 use Rattle.reader.proofs.Lines.{lines_cons, lines_first, lines_rest, line_in}
 use Rattle.reader.proofs.Good.{both_good}
+use Rattle.reader.proofs.Heads.{first, rest, read_head}
 
 -- ---- a line that is too long is bad
 
@@ -29,7 +32,7 @@ value_length : (name l : List ℕ) → length (value_in name l) ≡ length l - 1
 value_length name l = rw (length-take, length-drop) (omega arith)
 
 -- its value has 36 digits
-matrix_long : (name l : List ℕ) → length name + 37 < length l → matrix_line name l ≡ bad PlanInput
+matrix_long : (name l : List ℕ) → length name + 37 < length l → matrix_line name l ≡ Err PlanInput
 unfolding matrix_line
 matrix_long name l h =
     rw (ne_eqb (length (value_in name l)) 36 (λ e. omega (arith, value_length name l)), and-false (is_line name l))
@@ -39,13 +42,13 @@ number_long : (s : List ℕ) → 3 < length s → is_number s ≡ false
 unfolding is_number
 number_long s h = rw (lt-leb (length s) 3 h, and-false (leb 1 (length s)))
 
-native_long : (name l : List ℕ) → length name + 4 < length l → native_line name l ≡ bad PlanInput
+native_long : (name l : List ℕ) → length name + 4 < length l → native_line name l ≡ Err PlanInput
 unfolding native_line
 native_long name l h = rw (number_long (value_in name l) (omega (arith, value_length name l)), and-false (is_line name l))
 
-rotation_long : (f : ℕ → ℕ) (l : List ℕ) → 13 < length l → rotation_line f l ≡ bad PlanInput
+rotation_long : (f : ℕ → ℕ) (l : List ℕ) → 13 < length l → rotation_line f l ≡ Err PlanInput
 unfolding rotation_line
-rotation_long f l h = ap (λ (x : Read NativeNumber). on x (supported f)) (native_long (bytes_of "rotation=") l (omega arith))
+rotation_long f l h = ap (λ (x : Result NativeNumber Refusal). on x (supported f)) (native_long (bytes_of "rotation=") l (omega arith))
 
 -- ---- the first line of the front of a text
 
@@ -88,17 +91,17 @@ drop_take (suc k) (suc n) (b ∷ s) h =
 -- ---- readings that look at no more than k + 1 bytes
 
 -- the first k + 1 bytes decide, and what is good has at most k
-record Bounded {B : Type 0} (k : ℕ) (R : List ℕ → Read B) : Type 0 where
+record Bounded {B : Type 0} (k : ℕ) (R : List ℕ → Result B Refusal) : Type 0 where
   front : (n : ℕ) (s : List ℕ) → k < n → R (take n s) ≡ R s
-  short : (s : List ℕ) (b : B) → R s ≡ good b → length s ≤ k
+  short : (s : List ℕ) (b : B) → R s ≡ Ok b → length s ≤ k
 
 -- it is enough to know this of texts of some bytes
-module _ {B : Type 0} (k : ℕ) (R Q : List ℕ → Read B) (same : (s : List ℕ) → 0 < length s → R s ≡ Q s) (q : Bounded k Q) where
+module _ {B : Type 0} (k : ℕ) (R Q : List ℕ → Result B Refusal) (same : (s : List ℕ) → 0 < length s → R s ≡ Q s) (q : Bounded k Q) where
   some_front : (n : ℕ) (s : List ℕ) → k < n → R (take n s) ≡ R s
   some_front n [] h = rw (take-nil n)
   some_front n (b ∷ s) h = same (take n (b ∷ s)) (rw length-take (omega arith)) ∙ q.front n (b ∷ s) h ∙ sym (same (b ∷ s) (omega arith))
 
-  some_short : (s : List ℕ) (b : B) → R s ≡ good b → length s ≤ k
+  some_short : (s : List ℕ) (b : B) → R s ≡ Ok b → length s ≤ k
   some_short [] b e = omega arith
   some_short (c ∷ s) b e = q.short (c ∷ s) b (sym (same (c ∷ s) (omega arith)) ∙ e)
 
@@ -106,53 +109,45 @@ module _ {B : Type 0} (k : ℕ) (R Q : List ℕ → Read B) (same : (s : List �
   bounded_some = record { front = some_front; short = some_short }
 
 -- what is bad anyhow
-bounded_bad : {B : Type 0} (k : ℕ) → Bounded {B = B} k (λ (s : List ℕ). bad PlanInput)
+bounded_bad : {B : Type 0} (k : ℕ) → Bounded {B = B} k (λ (s : List ℕ). Err PlanInput)
 bounded_bad k = record {
   front = λ n s h. refl;
   short = λ s b e. let n : ◌≡◌ {A = ℕ} 0 1 = cc in absurd (omega arith);
 }
 
 -- what is done with what was read does not matter
-bounded_on : {A B : Type 0} (k : ℕ) (R : List ℕ → Read A) (next : A → Read B) → Bounded k R → Bounded k (λ (s : List ℕ). on (R s) next)
+bounded_on : {A B : Type 0} (k : ℕ) (R : List ℕ → Result A Refusal) (next : A → Result B Refusal) → Bounded k R → Bounded k (λ (s : List ℕ). on (R s) next)
 bounded_on {A} k R next r = record {
-  front = λ n s h. ap (λ (x : Read A). on x next) (r.front n s h);
+  front = λ n s h. ap (λ (x : Result A Refusal). on x next) (r.front n s h);
   short = λ s b e. let a = both_good (R s) next b e in r.short s a.0 a.1;
 }
 
 -- ---- one line, and then the rest
 
-first : List ℕ → List ℕ
-first s = take (line_length s) s
-
-rest : List ℕ → List ℕ
-rest s = drop (line_length s) s
-
 first_length : (s : List ℕ) → length (first s) ≡ line_length s
-unfolding first
 first_length s = length-take-le (line_length s) s (line_in s)
 
 rest_length : (s : List ℕ) → length s ≡ line_length s + length (rest s)
-unfolding rest
 rest_length s = omega (arith, length-drop (line_length s) s, line_in s)
 
 -- G reads the line and R the rest
-turn : {A B : Type 0} → (List ℕ → Read A) → (A → List ℕ → Read B) → List ℕ → Read B
+turn : {A B : Type 0} → (List ℕ → Result A Refusal) → (A → List ℕ → Result B Refusal) → List ℕ → Result B Refusal
 turn G R s = on (G (first s)) (λ a. R a (rest s))
 
 -- what is read after another thing, at each thing
-on_same : {A B : Type 0} (x : Read A) (f g : A → Read B) → ((a : A) → f a ≡ g a) → on x f ≡ on x g
-on_same (good a) f g h = h a
-on_same (bad r) f g h = refl
+on_same : {A B : Type 0} (x : Result A Refusal) (f g : A → Result B Refusal) → ((a : A) → f a ≡ g a) → on x f ≡ on x g
+on_same (Ok a) f g h = h a
+on_same (Err r) f g h = refl
 
 -- a line has at most m bytes, and the rest at most k
-module _ {A B : Type 0} (m k : ℕ) (G : List ℕ → Read A) (R : A → List ℕ → Read B)
-    (long : (l : List ℕ) → m < length l → G l ≡ bad PlanInput) (next : (a : A) → Bounded k (R a)) where
-  first_long : (s : List ℕ) → m < line_length s → G (first s) ≡ bad PlanInput
+module _ {A B : Type 0} (m k : ℕ) (G : List ℕ → Result A Refusal) (R : A → List ℕ → Result B Refusal)
+    (long : (l : List ℕ) → m < length l → G l ≡ Err PlanInput) (next : (a : A) → Bounded k (R a)) where
+  first_long : (s : List ℕ) → m < line_length s → G (first s) ≡ Err PlanInput
   first_long s h = long (first s) (omega (arith, first_length s))
 
   -- the front ends within the line, which is bad, or holds it
   turn_front : (n : ℕ) (s : List ℕ) → m + k < n → turn G R (take n s) ≡ turn G R s
-  unfolding turn first rest
+  unfolding turn
   turn_front n s h =
       ⊎_elim
       (λ c.
@@ -169,17 +164,17 @@ module _ {A B : Type 0} (m k : ℕ) (G : List ℕ → Read A) (R : A → List �
       (lt_or_ge n (line_length s))
 
   -- a good line is not too long
-  first_short : (s : List ℕ) (a : A) → G (first s) ≡ good a → line_length s ≤ m
+  first_short : (s : List ℕ) (a : A) → G (first s) ≡ Ok a → line_length s ≤ m
   first_short s a e =
       ⊎_elim
       (λ d.
-      let z : G (first s) ≡ bad PlanInput = first_long s d in
+      let z : G (first s) ≡ Err PlanInput = first_long s d in
       let n : ◌≡◌ {A = ℕ} 0 1 = cc in
       absurd (omega arith))
       (λ d. d)
       (lt_or_ge m (line_length s))
 
-  turn_short : (s : List ℕ) (b : B) → turn G R s ≡ good b → length s ≤ m + k
+  turn_short : (s : List ℕ) (b : B) → turn G R s ≡ Ok b → length s ≤ m + k
   unfolding turn
   turn_short s b e =
       let a = both_good (G (first s)) _ b e in
@@ -192,29 +187,29 @@ module _ {A B : Type 0} (m k : ℕ) (G : List ℕ → Read A) (R : A → List �
 
 module _ (f : ℕ → ℕ) where
   -- at most k rotations
-  rotations : ℕ → List ℕ → Read (List NativeNumber)
+  rotations : ℕ → List ℕ → Result (List NativeNumber) Refusal
   rotations k s = rotation_lines f k (lines s)
 
   -- one rotation and then at most k
-  more : ℕ → NativeNumber → List ℕ → Read (List NativeNumber)
-  more k n s = on (rotations k s) (λ (ns : List NativeNumber). good (n ∷ ns))
+  more : ℕ → NativeNumber → List ℕ → Result (List NativeNumber) Refusal
+  more k n s = on (rotations k s) (λ (ns : List NativeNumber). Ok (n ∷ ns))
 
   -- none may follow, or one and then fewer
-  rotations_over : (s : List ℕ) → 0 < length s → rotations 0 s ≡ bad PlanInput
+  rotations_over : (s : List ℕ) → 0 < length s → rotations 0 s ≡ Err PlanInput
   unfolding rotations rotation_lines
   rotations_over s h = rw (lines_cons s h)
 
   rotations_turn : (k : ℕ) (s : List ℕ) → 0 < length s → rotations (suc k) s ≡ turn (rotation_line f) (more k) s
-  unfolding rotations rotation_lines more turn first rest
+  unfolding rotations rotation_lines more turn
   rotations_turn k s h = rw (lines_cons s h)
 
   more_bounded : (k : ℕ) → Bounded (13 * k) (rotations k) → (n : NativeNumber) → Bounded (13 * k) (more k n)
   unfolding more
-  more_bounded k r n = bounded_on (13 * k) (rotations k) (λ (ns : List NativeNumber). good (n ∷ ns)) r
+  more_bounded k r n = bounded_on (13 * k) (rotations k) (λ (ns : List NativeNumber). Ok (n ∷ ns)) r
 
   rotations_bounded : (k : ℕ) → Bounded (13 * k) (rotations k)
   rotations_bounded zero =
-      bounded_some 0 (rotations 0) (λ (s : List ℕ). bad PlanInput) rotations_over (bounded_bad 0)
+      bounded_some 0 (rotations 0) (λ (s : List ℕ). Err PlanInput) rotations_over (bounded_bad 0)
   rotations_bounded (suc k) =
       let r = rotations_bounded k in
       let e : 13 * suc k ≡ 13 + 13 * k = omega arith in
@@ -223,10 +218,10 @@ module _ (f : ℕ → ℕ) where
 
 -- what follows the base, and what follows the pair
 module _ (c : CodeMeasurement) where
-  behind_base : NativeNumber → List ℕ → Read Plan
+  behind_base : NativeNumber → List ℕ → Result Plan Refusal
   behind_base base s = plan_from c base (lines s)
 
-  behind_pair : List ℕ → Read Plan
+  behind_pair : List ℕ → Result Plan Refusal
   behind_pair s = native_lines c (lines s)
 
   behind_base_bounded : (base : NativeNumber) → Bounded 3328 (behind_base base)
@@ -234,7 +229,7 @@ module _ (c : CodeMeasurement) where
   behind_base_bounded base = bounded_on 3328 (rotations (strings_of c) most_rotations) _ (rotations_bounded (strings_of c) most_rotations)
 
   pair_turn : (s : List ℕ) → behind_pair s ≡ turn (native_line (bytes_of "base=")) behind_base s
-  unfolding behind_pair native_lines behind_base turn first rest
+  unfolding behind_pair native_lines behind_base turn
   pair_turn s = rw (lines_first s, lines_rest s)
 
   pair_bounded : Bounded 3337 behind_pair
@@ -243,7 +238,7 @@ module _ (c : CodeMeasurement) where
       (turn_bounded 9 3328 (native_line (bytes_of "base=")) behind_base (λ l h. native_long (bytes_of "base=") l (omega arith)) behind_base_bounded)
 
 -- the second matrix behind the first
-second : List ℕ → List ℕ → Read Plan
+second : List ℕ → List ℕ → Result Plan Refusal
 second mx s = turn (matrix_line (bytes_of "my=")) (λ (my : List ℕ). behind_pair (record { mx = mx; my = my })) s
 
 second_bounded : (mx : List ℕ) → Bounded 3377 (second mx)
@@ -253,13 +248,8 @@ second_bounded mx =
     (λ l h. matrix_long (bytes_of "my=") l (omega arith)) (λ my. pair_bounded (record { mx = mx; my = my }))
 
 plan_turn : (s : List ℕ) → read_plan s ≡ turn (matrix_line (bytes_of "mx=")) second s
-unfolding read_plan read_lines turn first rest second behind_pair
-plan_turn s =
-    let t = rest s in
-    let r : drop 1 (lines s) ≡ lines t = lines_rest s in
-    let l : line_at 1 (lines s) ≡ take (line_length t) t = sym (get_or-drop 1 (lines s) 0 []) ∙ ap (line_at 0) r ∙ lines_first t in
-    let d : drop 2 (lines s) ≡ lines (drop (line_length t) t) = sym (drop-drop 1 1 (lines s)) ∙ ap (drop 1) r ∙ lines_rest t in
-    rw (lines_first s, l, d)
+unfolding turn second behind_pair
+plan_turn s = read_head s
 
 plan_bounded : Bounded 3417 read_plan
 plan_bounded =
@@ -272,5 +262,5 @@ plan_bounded =
 pub read_bounded : (n : ℕ) (s : List ℕ) → 3417 < n → read_plan (take n s) ≡ read_plan s
 read_bounded n s h = plan_bounded.front n s h
 
-pub read_length : (s : List ℕ) (p : Plan) → read_plan s ≡ good p → length s ≤ 3417
+pub read_length : (s : List ℕ) (p : Plan) → read_plan s ≡ Ok p → length s ≤ 3417
 read_length s p e = plan_bounded.short s p e

@@ -1,11 +1,10 @@
 -- Laws of `reader`.
 pub mod Lines
-pub mod Answers
+pub mod Heads
 pub mod Good
 pub mod First
 pub mod Sound
 pub mod Measured
-pub mod Heads
 pub mod Rotations
 pub mod Bound
 pub mod Again

@@ -1,57 +1,137 @@
 -- Where lines end, which lines a text has, and how a name is compared byte by byte. Assumes nothing.
 use mathlib.Core.Path.{◌≡◌, refl, ap, sym, ◌∙◌}
-use mathlib.Core.Bool.{Bool, true, false, cond, ◌&&◌, and-eq-true_iff}
-use mathlib.Core.List.{List, [], ◌∷◌}
-use Prim.Native.Nat.{ℕ, suc, ◌+◌, ◌-◌, ◌≤◌, ◌<◌}
-use native.Mathlib.Numerals.{add-one}
+use mathlib.Core.Bool.{Bool, true, false, cond, ◌&&◌, and-true}
+use mathlib.Core.Logic.{⊎_elim}
+use mathlib.Core.List.{List, [], ◌∷◌, ◌++◌}
+use Prim.Native.Nat.{ℕ, zero, suc, ◌+◌, ◌-◌, ◌≤◌, ◌<◌}
 use native.Mathlib.Omega.{arith}
 use lib.Dec.{eqb, ltb}
+use lib.Pointwise.{pointwise}
+use denote.Ref.{Bor}
+use denote.Param.Members.{Mut}
+use Rattle.std.specs.Prelude.{Option, Some, None, MatchOption, min, not}
+use Rattle.std.specs.Fn.{ComputesKey}
+use Rattle.std.specs.List.{position, position_or_len, IsFirstMatchOrLen}
+use Rattle.std.proofs.Math.Nat.{min-zero, min-eq_left}
+use Rattle.bicycle_common.proofs.Ranges.{lt_or_ge}
 use lib.ListN.{length, take, drop, get_or, drop_of_length-le, length-drop}
-use lib.Seq.{drop-cons, drop-drop}
-use borrow.Author.Tests.{ltb-true, eq-eqb, ne_eqb}
-use Rattle.reader.specs.Lines.{newline, grow, lines, line_at, line_length, begins, is_line}
+use lib.Seq.{drop-cons, get_or-drop, take-append_seam, drop-append_seam}
+use borrow.Author.Tests.{lt-ltb, le-ltb, eqb-true, eq-eqb}
+use Rattle.reader.specs.Lines.{newline, ends, grow, lines, line_at, line_length, begins, is_line, value_in}
 
 -- ---- where a line ends
 
-pub line_step : (s : List ℕ) (i : ℕ) → i < length s → (get_or s i 0 ≡ newline → ⊥) → i + line_length (drop i s) ≡ i + 1 + line_length (drop (i + 1) s)
+-- behind the first byte 10, at place i
+found : (t : Bool) (k n i l : ℕ) → ((j : ℕ) → cond (ltb k n) (Some k) None ≡ Some j → j + 1 ≡ l)
+    → cond (ltb (cond (not t) (1 + k) 0) (suc n)) (Some (cond (not t) (1 + k) 0)) None ≡ Some i → i + 1 ≡ cond t 1 (suc l)
+found true k n i l h e =
+    let p : 0 < suc n = omega arith in
+    let s : ◌≡◌ {A = Option ℕ} (Some 0) (Some i) = rw (lt-ltb 0 (suc n) p) at e in
+    let z : 0 ≡ i = cc in
+    omega arith
+found false k n i l h e =
+    ⊎_elim
+    (λ q.
+    let p : 1 + k < suc n = omega arith in
+    let s : ◌≡◌ {A = Option ℕ} (Some (1 + k)) (Some i) = rw (lt-ltb (1 + k) (suc n) p) at e in
+    let z : 1 + k ≡ i = cc in
+    let r : cond (ltb k n) (Some k) None ≡ Some k = rw (lt-ltb k n q) in
+    omega (arith, h k r))
+    (λ q.
+    let p : suc n ≤ 1 + k = omega arith in
+    let s : ◌≡◌ {A = Option ℕ} None (Some i) = rw (le-ltb (1 + k) (suc n) p) at e in
+    let z : ◌≡◌ {A = ℕ} 0 1 = cc in
+    absurd (omega arith))
+    (lt_or_ge k n)
+
+-- at the end where there is none
+missing : (t : Bool) (k n l : ℕ) → (cond (ltb k n) (Some k) None ≡ None → n ≡ l)
+    → cond (ltb (cond (not t) (1 + k) 0) (suc n)) (Some (cond (not t) (1 + k) 0)) None ≡ None → suc n ≡ cond t 1 (suc l)
+missing true k n l h e =
+    let p : 0 < suc n = omega arith in
+    let s : ◌≡◌ {A = Option ℕ} (Some 0) None = rw (lt-ltb 0 (suc n) p) at e in
+    let z : ◌≡◌ {A = ℕ} 0 1 = cc in
+    absurd (omega arith)
+missing false k n l h e =
+    ⊎_elim
+    (λ q.
+    let p : 1 + k < suc n = omega arith in
+    let s : ◌≡◌ {A = Option ℕ} (Some (1 + k)) None = rw (lt-ltb (1 + k) (suc n) p) at e in
+    let z : ◌≡◌ {A = ℕ} 0 1 = cc in
+    absurd (omega arith))
+    (λ q.
+    let r : cond (ltb k n) (Some k) None ≡ None = rw (le-ltb k n q) in
+    omega (arith, h r))
+    (lt_or_ge k n)
+
+pub line_found : (s : List ℕ) (i : ℕ) → position ends s ≡ Some i → i + 1 ≡ line_length s
 unfolding line_length
-line_step s i h n = rw (add-one, drop-cons s i 0 h) (simp (ne_eqb _ _ n) (omega arith))
+line_found [] i e = let z : ◌≡◌ {A = ℕ} 0 1 = cc in absurd (omega arith)
+line_found (b ∷ s) i e = found (eqb b newline) (position_or_len ends s) (length s) i (line_length s) (line_found s) e
 
-pub line_stop : (s : List ℕ) (i : ℕ) → i < length s → get_or s i 0 ≡ newline → i + line_length (drop i s) ≡ i + 1
+pub line_missing : (s : List ℕ) → position ends s ≡ None → length s ≡ line_length s
 unfolding line_length
-line_stop s i h e = rw (drop-cons s i 0 h) (simp (eq-eqb _ _ e))
+line_missing [] e = refl
+line_missing (b ∷ s) e = missing (eqb b newline) (position_or_len ends s) (length s) (line_length s) (line_missing s) e
 
-pub line_none : (s : List ℕ) (i : ℕ) → length s ≤ i → i + line_length (drop i s) ≡ i
-unfolding line_length
-line_none s i h = rw (drop_of_length-le s h) (omega arith)
+-- ---- a line's name, value and end
 
--- ---- names
+same_test : (s t : Bool) → (s ≡ true → t ≡ true) → (t ≡ true → s ≡ true) → s ≡ t
+same_test true t f g = sym (f refl)
+same_test false true f g = g refl
+same_test false false f g = refl
 
-module _ (n l : List ℕ) (i : ℕ) where
-  pub begins_step : i < length n → i < length l → get_or n i 0 ≡ get_or l i 0 → begins (drop i n) (drop i l) ≡ begins (drop (i + 1) n) (drop (i + 1) l)
-  unfolding begins
-  begins_step h k e = rw (add-one, drop-cons n i 0 h, drop-cons l i 0 k) (simp (eq-eqb _ _ e))
+eqb_sym : (a b : ℕ) → eqb a b ≡ eqb b a
+eqb_sym a b = same_test (eqb a b) (eqb b a) (λ e. eq-eqb b a (sym (eqb-true a b e))) (λ e. eq-eqb a b (sym (eqb-true b a e)))
 
-  pub begins_differ : i < length n → i < length l → (get_or n i 0 ≡ get_or l i 0 → ⊥) → begins (drop i n) (drop i l) ≡ false
-  unfolding begins
-  begins_differ h k e = rw (drop-cons n i 0 h, drop-cons l i 0 k) (simp (ne_eqb _ _ e))
+begins_law : (name l : List ℕ) → pointwise eqb (take (length name) l) name ≡ begins name l
+unfolding begins
+begins_law [] l = refl
+begins_law (a ∷ name) [] = refl
+begins_law (a ∷ name) (b ∷ l) = rw (begins_law name l, eqb_sym b a)
 
-  pub begins_short : i < length n → length l ≤ i → begins (drop i n) (drop i l) ≡ false
-  unfolding begins
-  begins_short h k = rw (drop-cons n i 0 h, drop_of_length-le l k)
+ends_law : (x : List ℕ) → pointwise eqb (drop (length x - 1) x) (newline ∷ []) ≡ (ltb 0 (length x) && eqb (get_or x (length x - 1) 0) newline)
+ends_law [] = refl
+ends_law (b ∷ s) =
+    let x : List ℕ = b ∷ s in
+    let h : length x - 1 < length x = omega arith in
+    let n : drop (suc (length x - 1)) x ≡ [] = drop_of_length-le x {i = suc (length x - 1)} (omega arith) in
+    let p : 0 < length x = omega arith in
+    rw (drop-cons x (length x - 1) 0 h, n, lt-ltb 0 (length x) p, and-true)
 
-  pub begins_done : length n ≤ i → begins (drop i n) (drop i l) ≡ true
-  unfolding begins
-  begins_done h = rw (drop_of_length-le n h)
+module _ (name l : List ℕ) where
+  pub no_name : pointwise eqb (take (length name) l) name ≡ false → is_line name l ≡ false
+  unfolding is_line
+  no_name e = rw (← (begins_law name l), e)
 
--- a line is longer than its name
-pub line_longer : (name l : List ℕ) → is_line name l ≡ true → length name < length l
-unfolding is_line
-line_longer name l e =
-    let a = begins name l in
-    let b = ltb (length name) (length l) in
-    let t = (and-eq-true_iff (a && b) (eqb (get_or l (length l - 1) 0) newline)).0 e in
-    ltb-true (length name) (length l) ((and-eq-true_iff a b).0 t.0).1
+  -- behind the name stands v, which is the value, and an end
+  value_by : (x : List ℕ) → pointwise eqb (take (length name) l) name ≡ true → x ≡ drop (length name) l
+      → (is_line name l ≡ pointwise eqb (drop (length x - 1) x) (newline ∷ [])) × (take (length x - 1) x ≡ value_in name l)
+  unfolding is_line
+  value_by x e i =
+      let b : begins name l ≡ true = sym (begins_law name l) ∙ e in
+      let n : length x ≡ length l - length name = ap length i ∙ length-drop (length name) l in
+      let k : length x - 1 ≡ length l - 1 - length name = omega arith in (
+        ⊎_elim
+            (λ h.
+            let p : 0 < length x = omega arith in
+            let m : length name + (length x - 1) ≡ length l - 1 = omega arith in
+            let g : get_or x (length x - 1) 0 ≡ get_or l (length l - 1) 0 =
+            ap (λ (y : List ℕ). get_or y (length x - 1) 0) i ∙ get_or-drop (length name) l (length x - 1) 0 ∙ ap (λ (j : ℕ). get_or l j 0) m in
+            rw (b, ends_law x, lt-ltb 0 (length x) p, lt-ltb (length name) (length l) h, g))
+            (λ h.
+            let p : length x ≤ 0 = omega arith in
+            rw (b, ends_law x, le-ltb 0 (length x) p, le-ltb (length name) (length l) h))
+            (lt_or_ge (length name) (length l)),
+        rw (← k, ← i),
+      )
+
+  pub value_found : (x : List ℕ) (o : Option (Bor (List ℕ))) → pointwise eqb (take (length name) l) name ≡ true → x ≡ drop (length name) l
+      → MatchOption o (pointwise eqb (drop (length x - 1) x) (newline ∷ []) ≡ false)
+      (λ v. (pointwise eqb (drop (length x - 1) x) (newline ∷ []) ≡ true) × (v.now ≡ take (length x - 1) x) × (length v.now + 1 ≡ length x))
+      → MatchOption o (is_line name l ≡ false) (λ v. (is_line name l ≡ true) × (v.now ≡ value_in name l))
+  value_found x None e i h = (value_by x e i).0 ∙ h
+  value_found x (Some v) e i h = ((value_by x e i).0 ∙ h.0, h.1 ∙ (value_by x e i).1)
 
 -- ---- the first line and the others
 
@@ -79,18 +159,10 @@ unfolding lines line_length
 lines_rest [] = refl
 lines_rest (b ∷ s) = ap (λ (ls : List (List ℕ)). drop 1 ls) (lines_cons' b s)
 
-pub lines_none : (s : List ℕ) (i : ℕ) → length s ≤ i → lines (drop i s) ≡ []
+pub lines_none : (s : List ℕ) → length s ≡ 0 → lines s ≡ []
 unfolding lines
-lines_none s i h = rw (drop_of_length-le s h)
-
-some_by : (t : Bool) (k : ℕ) → 0 < cond t 1 (suc k)
-some_by true k = omega arith
-some_by false k = omega arith
-
-line_some : (s : List ℕ) → 0 < length s → 0 < line_length s
-unfolding line_length
-line_some [] h = h
-line_some (b ∷ s) h = some_by (eqb b newline) (line_length s)
+lines_none [] h = refl
+lines_none (b ∷ s) h = absurd (omega arith)
 
 pub line_in : (s : List ℕ) → line_length s ≤ length s
 unfolding line_length
@@ -101,23 +173,23 @@ line_in (b ∷ s) = in_by (eqb b newline) (line_length s) (length s) (line_in s)
     in_by true k n h = omega arith
     in_by false k n h = omega arith
 
--- the line that begins at a place, and those behind it
-module _ (s : List ℕ) (at end : ℕ) (e : end ≡ at + line_length (drop at s)) where
-  pub line_at_law : take (end - at) (drop at s) ≡ line_at 0 (lines (drop at s))
-  line_at_law = let k : end - at ≡ line_length (drop at s) = omega arith in rw k (sym (lines_first (drop at s)))
+-- ---- the first line as it is cut off
 
-  pub lines_behind : lines (drop end s) ≡ drop 1 (lines (drop at s))
-  lines_behind = rw e (sym (lines_rest (drop at s) ∙ rw (drop-drop (line_length (drop at s)) at s)))
+cut_at : (s : List ℕ) (i : ℕ) → IsFirstMatchOrLen ends s i → min (i + 1) (length s) ≡ line_length s
+unfolding line_length
+cut_at [] i h = min-zero (i + 1)
+cut_at (b ∷ s) zero h =
+    let t : eqb b newline ≡ true = h.1 (omega arith) 0 in
+    rw t (min-eq_left (omega arith))
+cut_at (b ∷ s) (suc i) h =
+    let t : eqb b newline ≡ false = h.0 0 0 (omega arith) (omega arith) in
+    let r = cut_at s i ((λ k d l m. h.0 (suc k) d (omega arith) (omega arith)), (λ l d. h.1 (omega arith) d)) in
+    rw t (omega (arith, r))
 
-module _ (s : List ℕ) (at : ℕ) (h : at < length s) where
-  some : 0 < length (drop at s)
-  some = rw (length-drop at s) (omega arith)
-
-  pub line_more : at < at + line_length (drop at s)
-  line_more = omega (arith, line_some (drop at s) some)
-
-  pub lines_at : (end : ℕ) → end ≡ at + line_length (drop at s) → lines (drop at s) ≡ take (end - at) (drop at s) ∷ lines (drop end s)
-  lines_at end e =
-      let k : end - at ≡ line_length (drop at s) = omega arith in
-      let d : drop end s ≡ drop (line_length (drop at s)) (drop at s) = rw (e, drop-drop (line_length (drop at s)) at s) in
-      rw (k, d) (lines_cons (drop at s) some)
+-- a piece that `split_inclusive` yields where the closure tells the ends, and what is left behind it
+pub cut : {F : Type 0} {g : Mut F (Bor ℕ × Unit {0}) Bool} {f f' : F} {s x t : List ℕ}
+    → (s ≡ x ++ t) × ((i : ℕ) × (length x ≡ min (i + 1) (length s)) × ((p : ℕ → Bool) → ComputesKey g p f → ComputesKey g p f' × IsFirstMatchOrLen p s i)) × (0 < length s)
+    → ComputesKey g ends f → (x ≡ take (line_length s) s) × (t ≡ drop (line_length s) s)
+cut {s = s} {x = x} {t = t} q h =
+    let k : length x ≡ line_length s = q.1.1 ∙ cut_at s q.1.0 (q.1.2 ends h).1 in
+    (rw (← k, q.0) (sym (take-append_seam x t)), rw (← k, q.0) (sym (drop-append_seam x t)))

@@ -5,6 +5,9 @@ use Rattle.std.specs.Prelude.{Bool, true, false, cond, ◌&&◌, List, [], ◌�
 abbrev pub newline : ℕ
 newline = 10
 
+abbrev pub ends : ℕ → Bool
+ends b = eqb b newline
+
 -- ---- the lines of a text
 
 -- the byte b put before the first line

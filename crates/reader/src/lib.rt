@@ -4,43 +4,26 @@
 // lays them down under "Plan listing".
 #![tactic(auto)]
 
-ghost use Rattle.std.specs.Prelude.{◌≡◌, true, ◌+◌, ◌*◌, ◌≤◌, ◌<◌, length, drop};
+ghost use Rattle.std.specs.Prelude.{◌≡◌, true, false, ℕ, ◌*◌, ◌<◌, length, take, drop, position, MatchOption, IfOk};
 ghost use Rattle.bicycle_common.specs.Bytes.{digit_numbers};
 ghost use Rattle.text.specs.Decimals.{all_digits};
 ghost use Rattle.native_measurement.specs.Natives.{natives};
-ghost use Rattle.measurement.specs.Matrices.{side, is_bytes, of_bytes};
-ghost use Rattle.natives.specs.Arrays;
-ghost use Rattle.natives.specs.Arrays.{at};
-ghost use Rattle.reader.specs.Lines.{lines, line_length, begins, is_line};
-ghost use Rattle.text.specs.Reads.{bad};
-ghost use Rattle.reader.specs.Plans.{matrix_line, native_line, supported, rotation_line, plan_from, native_lines, read_plan};
-ghost use Rattle.reader.specs.Answers.{line_answer, matrix_answer, plan_answer};
+ghost use Rattle.measurement.specs.Matrices.{side, is_bytes};
+ghost use Rattle.natives.specs.Cells.{shown};
+ghost use Rattle.reader.specs.Lines.{ends, lines, line_length, is_line, value_in};
+ghost use Rattle.reader.specs.Plans.{strings_of, matrix_line, native_line, rotation_line, plan_from, native_lines, read_plan};
+ghost use Rattle.reader.specs.Answers.{stated};
 
-use bicycle_common::{Outcome, Refusal};
-use measurement::CodeMeasurement;
+use bicycle_common::Refusal;
+use measurement::{CodeMeasurement, Pair};
 use native_measurement::{NATIVES, NativeNumber};
+use natives::Cells;
 use pauli_string::PauliString;
-use text::NumberAnswer;
 
-// The native of a line, or the refusal.
+// A plan: the pair, the base, the string measured, and the rotations, base side first, with zeros behind them: what a
+// caller is told (`told_plan`) is all 256 of them, which an array with its count decides.
 #[derive(Clone, Copy)]
-enum LineAnswer {
-    Is(NativeNumber),
-    Refused(Refusal),
-}
-
-// The numbers of a matrix line; all zeros on a refusal.
-#[derive(Clone, Copy)]
-struct MatrixAnswer {
-    pub outcome: Outcome,
-    pub numbers: [u8; 36],
-}
-
-// A plan: the pair, the base, the string measured, and the rotations, base side first, with zeros behind them; all zeros
-// on a refusal.
-#[derive(Clone, Copy)]
-pub struct PlanAnswer {
-    pub outcome: Outcome,
+pub struct StatedPlan {
     pub pair: CodeMeasurement,
     pub base: NativeNumber,
     pub measures: PauliString,
@@ -50,47 +33,35 @@ pub struct PlanAnswer {
 
 // ---- lines
 
-// Where the line that begins at a place ends.
-fn line_end(s: &[u8], at: usize) -> usize
-    requires { at ≤ length s.now }
-    ensures { (result ≡ at + line_length (drop at s.now)) × (result ≤ length s.now) }
+fn newline_in(s: &[u8]) -> Option<usize>
+    ensures { result ≡ position ends s.now }
 {
-    let mut i = at;
-    while i < s.len() {
-        if s[i] == b'\n' {
-            return i + 1;
-        }
-        i += 1;
-    }
-    i
+    s.iter().position(|b| *b == b'\n')
 }
 
-fn begins(name: &[u8], l: &[u8]) -> bool
-    ensures { result ≡ begins name.now l.now }
+// How long the first line is, with its end.
+fn line_length(s: &[u8]) -> usize
+    ensures { result ≡ line_length s.now }
 {
-    let mut i: usize = 0;
-    while i < name.len() {
-        if l.len() <= i {
-            return false;
-        }
-        if name[i] != l[i] {
-            return false;
-        }
-        i += 1;
+    match newline_in(s) {
+        Some(i) => i + 1,
+        None => s.len(),
     }
-    true
 }
 
-fn is_line(name: &[u8], l: &[u8]) -> bool
-    ensures { result ≡ is_line name.now l.now }
+// The first line, with its end, and what stands behind it.
+fn split_line(s: &[u8]) -> (&[u8], &[u8])
+    ensures line { result.0.now ≡ take (line_length s.now) s.now }
+    ensures behind { result.1.now ≡ drop (line_length s.now) s.now }
 {
-    if !begins(name, l) {
-        return false;
-    }
-    if l.len() <= name.len() {
-        return false;
-    }
-    l[l.len() - 1] == b'\n'
+    s.split_at(line_length(s))
+}
+
+// What stands between the name and the end of a line. Two slices, here and below, as each call has another line.
+fn value_in<'a>(name: &[u8], l: &'a [u8]) -> Option<&'a [u8]>
+    ensures { MatchOption result (is_line name.now l.now ≡ false) (λ v. (is_line name.now l.now ≡ true) × (v.now ≡ value_in name.now l.now)) }
+{
+    l.strip_prefix(name)?.strip_suffix(b"\n")
 }
 
 // ---- a matrix
@@ -99,202 +70,125 @@ fn digit_numbers(s: &[u8]) -> [u8; 36]
     requires { (length s.now ≡ side * side) × (all_digits s.now ≡ true) }
     ensures { result ≡ digit_numbers s.now }
 {
-    let mut out = [0u8; 36];
-    let mut i: usize = 0;
-    while i < 36 {
-        out[i] = s[i] - b'0';
-        i += 1;
+    // No `from_fn`: over 36 places its proof did not close
+    let mut out = [0; 36];
+    for (i, number) in out.iter_mut().enumerate() {
+        *number = s[i] - b'0';
     }
     out
 }
 
-fn no_matrix(r: Refusal) -> MatrixAnswer
-    ensures { result ≡ matrix_answer (bad r) }
+#[tactic(auto, unfolding(crate::specs::Plans::matrix_line))]
+fn matrix_line(name: &[u8], l: &[u8]) -> Result<[u8; 36], Refusal>
+    ensures numbers { result ≡ matrix_line name.now l.now }
+    ensures matrix { IfOk result (λ m. is_bytes side m ≡ true) }
 {
-    MatrixAnswer {
-        outcome: Outcome::Refused(r),
-        numbers: [0; 36],
-    }
-}
-
-fn matrix_line(name: &[u8], l: &[u8]) -> MatrixAnswer
-    ensures { result ≡ matrix_answer (matrix_line name.now l.now) }
-{
-    if !is_line(name, l) {
-        return no_matrix(Refusal::PlanInput);
-    }
-    let value = &l[name.len()..l.len() - 1];
-    if value.len() != 36 {
-        return no_matrix(Refusal::PlanInput);
-    }
-    if !text::all_digits(value) {
-        return no_matrix(Refusal::PlanInput);
+    let value = value_in(name, l).ok_or(Refusal::PlanInput)?;
+    if value.len() != 36 || !text::all_digits(value) {
+        return Err(Refusal::PlanInput);
     }
     let numbers = digit_numbers(value);
     if !measurement::is_matrix(&numbers) {
-        return no_matrix(Refusal::Matrix);
+        return Err(Refusal::Matrix);
     }
-    MatrixAnswer {
-        outcome: Outcome::Done,
-        numbers,
-    }
+    Ok(numbers)
 }
 
 // ---- natives
 
-fn native_line(name: &[u8], l: &[u8]) -> LineAnswer
-    ensures { result ≡ line_answer (native_line name.now l.now) }
+#[tactic(auto, unfolding(crate::specs::Plans::native_line))]
+fn native_line(name: &[u8], l: &[u8]) -> Result<NativeNumber, Refusal>
+    ensures native { result ≡ native_line name.now l.now }
+    ensures below { IfOk result (λ n. n.0 < natives) }
 {
-    if !is_line(name, l) {
-        return LineAnswer::Refused(Refusal::PlanInput);
-    }
-    let NumberAnswer::Is(n) = text::read_number(&l[name.len()..l.len() - 1]) else {
-        return LineAnswer::Refused(Refusal::PlanInput);
-    };
+    let value = value_in(name, l).ok_or(Refusal::PlanInput)?;
+    let n = text::read_number(value).ok_or(Refusal::PlanInput)?;
     if n >= NATIVES {
-        return LineAnswer::Refused(Refusal::NativeRange);
+        return Err(Refusal::NativeRange);
     }
-    LineAnswer::Is(NativeNumber(n))
+    Ok(NativeNumber(n))
 }
 
 // The string of a native.
-fn string_of(n: NativeNumber, strings: &[u32]) -> PauliString
-    requires { (n.0 < natives) × (length strings.now ≡ natives) }
-    ensures { result.0 ≡ at strings.now n.0 }
+pub fn string_of_unchecked(n: NativeNumber, cells: &Cells) -> PauliString
+    requires { n.0 < natives }
+    ensures { result.0 ≡ shown cells.now.cells n.0 }
 {
-    PauliString(strings[n.0 as usize])
+    PauliString(cells.string_unchecked(u32::from(n.0)))
 }
 
 // A rotation has a letter on the pivot.
-fn supported(n: NativeNumber, strings: &[u32]) -> LineAnswer
-    requires { (n.0 < natives) × (length strings.now ≡ natives) }
-    ensures { result ≡ line_answer (supported (at strings.now) n) }
+#[tactic(auto, unfolding(crate::specs::Plans::rotation_line))]
+fn rotation_line(l: &[u8], cells: &Cells) -> Result<NativeNumber, Refusal>
+    ensures { result ≡ rotation_line (shown cells.now.cells) l.now }
 {
-    if string_of(n, strings).has_pivot_support_unchecked() {
-        return LineAnswer::Is(n);
+    let n = native_line(b"rotation=", l)?;
+    if string_of_unchecked(n, cells).has_pivot_support_unchecked() {
+        return Ok(n);
     }
-    LineAnswer::Refused(Refusal::PivotIdentity)
-}
-
-fn rotation_line(l: &[u8], strings: &[u32]) -> LineAnswer
-    requires { length strings.now ≡ natives }
-    ensures { result ≡ line_answer (rotation_line (at strings.now) l.now) }
-{
-    match native_line(b"rotation=", l) {
-        LineAnswer::Is(n) => supported(n, strings),
-        LineAnswer::Refused(r) => LineAnswer::Refused(r),
-    }
+    Err(Refusal::PivotIdentity)
 }
 
 // ---- all lines
 
-fn no_plan(r: Refusal) -> PlanAnswer
-    ensures { result ≡ plan_answer (bad r) }
-{
-    let pair = CodeMeasurement {
-        mx: [0; 36],
-        my: [0; 36],
-    };
-    PlanAnswer {
-        outcome: Outcome::Refused(r),
-        pair,
-        base: NativeNumber(0),
-        measures: PauliString(0),
-        count: 0,
-        rotations: [NativeNumber(0); 256],
-    }
-}
-
-// The rotation lines from a place on, and the plan with the base that stands before them.
+// The rotation lines, and the plan with the base that stands before them.
 fn read_rotations(
     input: &[u8],
-    start: usize,
     pair: CodeMeasurement,
-    strings: &[u32],
+    cells: &Cells,
     base: NativeNumber,
-) -> PlanAnswer
-    requires start_in_bounds { (start ≤ length input.now) × (base.0 < natives) }
-    requires strings_value { strings.now ≡ Arrays.strings (of_bytes side pair.mx) (of_bytes side pair.my) }
-    ensures { result ≡ plan_answer (plan_from pair base (lines (drop start input.now))) }
+) -> Result<StatedPlan, Refusal>
+    requires base_below { base.0 < natives }
+    requires cells_of { (n : ℕ) → n < natives → shown cells.now.cells n ≡ strings_of pair n }
+    ensures { result ≡ stated (plan_from pair base (lines input.now)) }
 {
     let mut rotations = [NativeNumber(0); 256];
     let mut count: usize = 0;
-    let mut at = start;
-    let mut m = string_of(base, strings);
-    while at < input.len() {
+    let mut measures = string_of_unchecked(base, cells);
+    for line in input.split_inclusive(|b| *b == b'\n') {
         if count == 256 {
-            return no_plan(Refusal::PlanInput);
+            return Err(Refusal::PlanInput);
         }
-        let end = line_end(input, at);
-        match rotation_line(&input[at..end], strings) {
-            LineAnswer::Refused(r) => {
-                return no_plan(r);
-            }
-            LineAnswer::Is(n) => {
-                rotations[count] = n;
-                m = m.rotate_unchecked(string_of(n, strings));
-                count += 1;
-                at = end;
-            }
-        }
+        let n = rotation_line(line, cells)?;
+        rotations[count] = n;
+        measures = measures.rotate_unchecked(string_of_unchecked(n, cells));
+        count += 1;
     }
-    if m.0 == 0 {
-        return no_plan(Refusal::Identity);
+    if measures.0 == 0 {
+        return Err(Refusal::Identity);
     }
-    PlanAnswer {
-        outcome: Outcome::Done,
+    Ok(StatedPlan {
         pair,
         base,
-        measures: m,
+        measures,
         count,
         rotations,
-    }
+    })
 }
 
-// The same with the strings of the natives, which are formed once for all lines.
-fn read_behind(input: &[u8], start: usize, pair: CodeMeasurement, base: NativeNumber) -> PlanAnswer
-    requires start_in_bounds { (start ≤ length input.now) × (base.0 < natives) }
-    requires mx_value { (is_bytes side pair.mx ≡ true) × (is_bytes side pair.my ≡ true) }
-    ensures { result ≡ plan_answer (plan_from pair base (lines (drop start input.now))) }
+// The lines behind the matrices. The cells that hold the natives' strings are formed once for all lines.
+#[tactic(auto, unfolding(crate::specs::Plans::native_lines), using(crate::proofs::Lines::lines_first, crate::proofs::Lines::lines_rest))]
+fn read_natives(input: &[u8], pair: CodeMeasurement) -> Result<StatedPlan, Refusal>
+    requires { (is_bytes side pair.mx ≡ true) × (is_bytes side pair.my ≡ true) }
+    ensures { result ≡ stated (native_lines pair (lines input.now)) }
 {
-    let mx = pair.mx;
-    let my = pair.my;
-    let mut strings = [0u32; 540];
-    natives::strings_unchecked(&mx, &my, &mut strings);
-    read_rotations(input, start, pair, &strings, base)
-}
-
-// The lines behind the matrices.
-fn read_natives(input: &[u8], start: usize, pair: CodeMeasurement) -> PlanAnswer
-    requires start_in_bounds { start ≤ length input.now }
-    requires mx_value { (is_bytes side pair.mx ≡ true) × (is_bytes side pair.my ≡ true) }
-    ensures { result ≡ plan_answer (native_lines pair (lines (drop start input.now))) }
-{
-    let end = line_end(input, start);
-    match native_line(b"base=", &input[start..end]) {
-        LineAnswer::Is(base) => read_behind(input, end, pair, base),
-        LineAnswer::Refused(r) => no_plan(r),
-    }
+    let (line, behind) = split_line(input);
+    let base = native_line(b"base=", line)?;
+    let cells = natives::cells_unchecked(Pair {
+        mx: &pair.mx,
+        my: &pair.my,
+    });
+    read_rotations(behind, pair, &cells, base)
 }
 
 // The plan that the input states: 12, 3, 11 or 10 by its first bad line; and where every line is good, 5.
-pub fn read(input: &[u8]) -> PlanAnswer
-    ensures { result ≡ plan_answer (read_plan input.now) }
+#[tactic(auto, using(crate::proofs::Heads::read_head))]
+pub fn read(input: &[u8]) -> Result<StatedPlan, Refusal>
+    ensures { result ≡ stated (read_plan input.now) }
 {
-    let first = line_end(input, 0);
-    let second = line_end(input, first);
-    let x = matrix_line(b"mx=", &input[0..first]);
-    let y = matrix_line(b"my=", &input[first..second]);
-    let of_mx = x.outcome;
-    if let Outcome::Refused(r) = of_mx {
-        return no_plan(r);
-    }
-    let of_my = y.outcome;
-    if let Outcome::Refused(r) = of_my {
-        return no_plan(r);
-    }
-    let mx = x.numbers;
-    let my = y.numbers;
-    let pair = CodeMeasurement { mx, my };
-    read_natives(input, second, pair)
+    let (first, behind) = split_line(input);
+    let mx = matrix_line(b"mx=", first)?;
+    let (second, behind) = split_line(behind);
+    let my = matrix_line(b"my=", second)?;
+    read_natives(behind, CodeMeasurement { mx, my })
 }

@@ -12,7 +12,7 @@ pub data Chosen (c : ℕ → Bool) (g : ℕ → ℕ) : ℕ → ℕ → Type 0 wh
   takes : {m k : ℕ} → Chosen c g m k → c k ≡ true → g m ≡ k → Chosen c g (m + 1) (k + 1)
 
 -- blanked strings in rs, of which m count, and natives' numbers in ns
-pub record Rotations (q : ℕ) (rs ns : List ℕ) (m : ℕ) : Type 0 where
+pub record Blanked (q : ℕ) (rs ns : List ℕ) (m : ℕ) : Type 0 where
   pub long_r : length rs ≡ natives
   pub long_n : length ns ≡ natives
   pub few : m ≤ natives
@@ -22,6 +22,6 @@ pub record Rotations (q : ℕ) (rs ns : List ℕ) (m : ℕ) : Type 0 where
 
 -- the first m of ns are the rotations among the first k natives, ascending, and the first m of rs are their strings, blanked
 pub record Packed (q : ℕ) (f : ℕ → ℕ) (rs ns : List ℕ) (m k : ℕ) : Type 0 where
-  pub rotations : Rotations q rs ns m
+  pub rotations : Blanked q rs ns m
   pub chosen : Chosen (is_rotation q f) (at ns) m k
   pub strings : (i : ℕ) → i < m → at rs i ≡ blank q (f (at ns i))

@@ -9,66 +9,67 @@
 // (see NOTICE).
 #![tactic(auto)]
 
-ghost use Rattle.std.specs.Prelude.{◌≡◌, ◌+◌, ◌<◌, length};
+ghost use Rattle.std.specs.Prelude.{◌≡◌, ℕ, ◌+◌, ◌<◌};
 ghost use Rattle.pauli_string.specs.Strings.{qubits};
-ghost use Rattle.native_measurement.specs.Natives.{natives};
-ghost use Rattle.natives.specs.Arrays.{at, Held, flags};
+ghost use Rattle.natives.specs.Arrays.{at};
 ghost use Rattle.table.specs.Entries.{is_rotation};
-ghost use Rattle.rotations.specs.Packed.{Rotations, Packed};
+ghost use Rattle.rotations.specs.Packed.{Blanked, Packed};
 
+use natives::Natives;
 use pauli_string::PauliString;
 
-// Whether native n is kept and has pivot support.
-pub fn is_rotation_unchecked(strings: &[u32], kept: &[bool; 540], n: usize) -> bool
-    requires { (n < natives) × (length strings.now ≡ natives) × (kept.now ≡ flags (at strings.now)) }
-    ensures { result ≡ is_rotation qubits (at strings.now) n }
-{
-    if kept[n] {
-        return PauliString(strings[n]).has_pivot_support_unchecked();
-    }
-    false
+// The rotations of a pair, in ascending number of their natives. Behind the count both arrays hold whatever is in range.
+// Two arrays, and neither pairs nor an `ArrayVec`: a loop over the strings alone takes four at once (`moves::odds`).
+#[derive(Drop)]
+pub struct Rotations {
+    // The string of each, blanked
+    pub strings: [u32; 540],
+    // The number of the native of each
+    pub natives: [u32; 540],
+    pub count: usize,
+    pub ghost blanked: { Blanked qubits strings natives count },
 }
 
-// Native n, if it is a rotation, behind the m that are in front of rs, blanked, with its number in ns.
-fn pack_one(
-    strings: &[u32],
-    kept: &[bool; 540],
-    rs: &mut [u32; 540],
-    ns: &mut [u32; 540],
-    n: usize,
-    m: usize,
-) -> usize
-    requires n_lt_natives { (n < natives) × Held qubits strings.now × (kept.now ≡ flags (at strings.now)) }
-    requires packed { Packed qubits (at strings.now) rs.old ns.old m n }
-    ensures { Packed qubits (at strings.now) rs.new ns.new result (n + 1) }
+// Whether native n is kept and has pivot support. A bare number, here and below: it is what a loop counts.
+pub fn is_rotation_unchecked(natives: &Natives, n: usize) -> bool
+    requires { n < 540 }
+    ensures { result ≡ is_rotation qubits (at natives.now.strings) n }
 {
-    if !is_rotation_unchecked(strings, kept, n) {
-        return m;
-    }
-    let string = strings[n];
-    let r = PauliString(string).zero_pivot_unchecked();
-    rs[m] = r.0;
-    ns[m] = n as u32;
-    m + 1
+    natives.kept[n] && PauliString(natives.strings[n]).has_pivot_support_unchecked()
 }
 
-// All rotations in front of rs, blanked, in ascending number, and their numbers in ns. The answer is their count.
-pub fn pack_unchecked(
-    strings: &[u32],
-    kept: &[bool; 540],
-    rs: &mut [u32; 540],
-    ns: &mut [u32; 540],
-) -> usize
-    requires held { Held qubits strings.now × (kept.now ≡ flags (at strings.now)) }
-    requires packed { Packed qubits (at strings.now) rs.old ns.old 0 0 }
-    ensures { Packed qubits (at strings.now) rs.new ns.new result natives }
+// Native n, if it is a rotation, behind those that are packed.
+fn pack_one(r: &mut Rotations, natives: &Natives, n: usize)
+    requires below { n < 540 }
+    requires packed { Packed qubits (at natives.now.strings) r.old.strings r.old.natives r.old.count n }
+    ensures { Packed qubits (at natives.now.strings) r.new.strings r.new.natives r.new.count (n + 1) }
 {
-    let mut m: usize = 0;
-    let mut left: usize = 540;
-    while 0 < left {
-        let n = 540 - left;
-        m = pack_one(strings, kept, rs, ns, n, m);
-        left -= 1;
+    if is_rotation_unchecked(natives, n) {
+        let string = PauliString(natives.strings[n]).zero_pivot_unchecked();
+        r.strings[r.count] = string.0;
+        r.natives[r.count] = n as u32;
+        r.count += 1;
     }
-    m
+}
+
+// No rotation yet.
+fn packed_none() -> Rotations
+    ensures { (f : ℕ → ℕ) → Packed qubits f result.strings result.natives result.count 0 }
+{
+    Rotations {
+        strings: [0; 540],
+        natives: [0; 540],
+        count: 0,
+    }
+}
+
+// All rotations of a pair.
+pub fn pack_unchecked(natives: &Natives) -> Rotations
+    ensures { Packed qubits (at natives.now.strings) result.strings result.natives result.count 540 }
+{
+    let mut r = packed_none();
+    for n in 0..540 {
+        pack_one(&mut r, natives, n);
+    }
+    r
 }

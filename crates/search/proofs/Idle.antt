@@ -7,7 +7,7 @@ use Rattle.pauli_string.specs.Strings.{rotate}
 use Rattle.natives.specs.Arrays.{at}
 use Rattle.table.specs.Bytes.{entry}
 use Rattle.digits.specs.Filter.{bucket, Covers}
-use Rattle.digits.proofs.Filter.{covers_grows}
+use Rattle.digits.proofs.Filling.{covers_grows}
 use Rattle.discovery.specs.Model.{State}
 use Rattle.discovery.proofs.States.{tried_keeps, tried_idle}
 use Rattle.search.specs.Turns.{packed_tried}

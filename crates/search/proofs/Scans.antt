@@ -11,8 +11,7 @@ use Rattle.native_measurement.specs.Natives.{natives}
 use Rattle.natives.specs.Arrays.{at}
 use Rattle.table.specs.Bytes.{entry}
 use Rattle.table.specs.Entries.{depth}
-use Rattle.rotations.specs.Packed.{Rotations, Packed}
-use Rattle.moves.specs.Moves.{Scratch}
+use Rattle.rotations.specs.Packed.{Blanked, Packed}
 use Rattle.digits.specs.Filter.{Covers}
 use Rattle.discovery.specs.Model.{State, attempt, expand}
 use Rattle.discovery.specs.States.{Fits, Good, Moving}
@@ -43,7 +42,7 @@ turn_packed q F f rs ns m i p s h l z =
     ∙ ap (λ (p : ℕ). in_turn natives (attempt q f p (depth (entry s.table p) + 1)) s) z
     ∙ sym (expand_turn q f i s l)
 
-turn_good : (q : ℕ) (F : Fits q) (rs ns : List ℕ) (m p d : ℕ) (s : State) → Rotations q rs ns m → Moving q p d s
+turn_good : (q : ℕ) (F : Fits q) (rs ns : List ℕ) (m p d : ℕ) (s : State) → Blanked q rs ns m → Moving q p d s
     → Good q (in_turn m (packed_tried q rs ns p d) s)
 turn_good q F rs ns m p d s r t =
     (tried_asks q F (λ (i : ℕ). rotate q p (at rs i)) (at ns) d m s t.good
@@ -51,34 +50,17 @@ turn_good q F rs ns m p d s r t =
     ).0
 
 -- before place i of the scan that began at place k with state b: the state is the model's, for whatever natives the rotations were packed of
-pub record Scanned (q : ℕ) (rs ns : List ℕ) (m k : ℕ) (b : State) (xs gs filter : List ℕ) (s : State) (i since : ℕ) : Type 0 where
+pub record Scanned (q : ℕ) (rs ns : List ℕ) (m k : ℕ) (b : State) (filter : List ℕ) (s : State) (i : ℕ) : Type 0 where
   pub place : i ≤ 4 ^ q
-  pub since_low : since ≤ 131072
-  pub scratch : Scratch xs gs
   pub covers : Covers q rs m filter s.table
   pub good : Good q s
   pub same : (f : ℕ → ℕ) (o : State) → Packed q f rs ns m natives → b ≡ in_turn k (expand q f) o → s ≡ in_turn i (expand q f) o
 
-pub scan_starts : (q : ℕ) (rs ns : List ℕ) (m k : ℕ) (xs gs filter : List ℕ) (s : State) → k ≤ 4 ^ q → Scratch xs gs → Covers q rs m filter s.table → Good q s
-    → Scanned q rs ns m k s xs gs filter s k 0
-scan_starts q rs ns m k xs gs filter s l x h g = record {
-  place = l;
-  since_low = omega arith;
-  scratch = x;
-  covers = h;
-  good = g;
-  same = λ f o z e. e;
-}
-
-module _ (q : ℕ) (F : Fits q) (rs ns : List ℕ) (m k : ℕ) (b : State) (xs gs filter : List ℕ) (s : State) (i since : ℕ)
-    (h : Scanned q rs ns m k b xs gs filter s i since) where
-  pub scan_next : (xs' gs' filter' : List ℕ) (w : State) (p since' : ℕ) → Rotations q rs ns m → i < s.count → p ≡ entry s.queue i
-      → since' ≤ 131072 → Scratch xs' gs' → Covers q rs m filter' s.table
-      → w ≡ in_turn m (packed_tried q rs ns p (depth (entry s.table p) + 1)) s → Scanned q rs ns m k b xs' gs' filter' w (i + 1) since'
-  scan_next xs' gs' filter' w p since' r l zp hs x hc z = record {
+module _ (q : ℕ) (F : Fits q) (rs ns : List ℕ) (m k : ℕ) (b : State) (filter : List ℕ) (s : State) (i : ℕ) (h : Scanned q rs ns m k b filter s i) where
+  pub scan_next : (filter' : List ℕ) (w : State) (p : ℕ) → Blanked q rs ns m → i < s.count → p ≡ entry s.queue i → Covers q rs m filter' s.table
+      → w ≡ in_turn m (packed_tried q rs ns p (depth (entry s.table p) + 1)) s → Scanned q rs ns m k b filter' w (i + 1)
+  scan_next filter' w p r l zp hc z = record {
     place = omega (arith, count_below q s h.good);
-    since_low = hs;
-    scratch = x;
     covers = covers_turn q rs ns m filter' p (depth (entry s.table p) + 1) s w z hc;
     good =
         subst (Good q) (sym z) (turn_good q F rs ns m p (depth (entry s.table p) + 1) s r (listed_moving q s i p h.good l zp));

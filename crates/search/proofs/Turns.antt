@@ -13,7 +13,7 @@ use Rattle.natives.specs.Arrays.{at}
 use Rattle.shortest.specs.Graphs.{Has}
 use Rattle.table.specs.Bytes.{entry}
 use Rattle.table.specs.Entries.{value, leads}
-use Rattle.rotations.specs.Packed.{Rotations, Packed}
+use Rattle.rotations.specs.Packed.{Blanked, Packed}
 use Rattle.moves.specs.Moves.{Led, none, stays, moves}
 use Rattle.rotations.proofs.Packed.{chosen_turns}
 use Rattle.discovery.specs.Model.{State, discover, attempt}
@@ -61,7 +61,7 @@ module _ {q p : ℕ} {rs ns xs gs : List ℕ} where
       ∙ sym (in_turn_next i (packed_tried q rs ns p d) s)
 
   -- each stands beside p
-  pub led_beside : (F : Fits q) (m : ℕ) → p < 4 ^ q → Rotations q rs ns m → {k i : ℕ} → Led q p rs ns xs gs k i
+  pub led_beside : (F : Fits q) (m : ℕ) → p < 4 ^ q → Blanked q rs ns m → {k i : ℕ} → Led q p rs ns xs gs k i
       → (j : ℕ) → j < k → Beside q p (at xs j) (at gs j)
   led_beside F m hp R none j l = absurd (omega arith)
   led_beside F m hp R (stays g z) j l = led_beside F m hp R g j l

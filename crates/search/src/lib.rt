@@ -13,157 +13,112 @@ ghost use Rattle.std.specs.Prelude.{◌≡◌, true, false, ℕ, ◌+◌, ◌^�
 ghost use Rattle.bicycle_common.specs.Ranges.{in_turn};
 ghost use Rattle.pauli_string.specs.Strings.{qubits};
 ghost use Rattle.native_measurement.specs.Natives.{natives};
-ghost use Rattle.natives.specs.Arrays.{at, Held, flags};
+ghost use Rattle.natives.specs.Arrays.{at};
 ghost use Rattle.table.specs.Bytes.{entry};
 ghost use Rattle.table.specs.Entries.{depth};
-ghost use Rattle.rotations.specs.Packed.{Rotations};
-ghost use Rattle.moves.specs.Moves.{Scratch};
 ghost use Rattle.digits.specs.Filter.{Covers};
 ghost use Rattle.discovery.specs.Model.{state, expand};
-ghost use Rattle.discovery.specs.States.{Good, Asks, Moving};
-ghost use Rattle.discovery.specs.Short.{fore, strung, Notes, Room};
+ghost use Rattle.discovery.specs.States.{Asks, Moving};
+ghost use Rattle.discovery.specs.Short.{fore, Room};
+ghost use Rattle.discovery.specs.Builds.{held, Sound, Lent, Comes};
 ghost use Rattle.search.specs.Turns.{listed_tried, packed_tried};
 ghost use Rattle.search.specs.Scans.{Reaches};
 
-// While the queue holds no more strings than this, a turn leaves its last two mebibytes free: from byte 65011712 on, which
-// is to say from digit 520093696 on
-const SHORT: u32 = 16252388;
+use digits::Filter;
+use discovery::{Build, NOTES};
+use moves::Moved;
+use natives::Natives;
+use rotations::Rotations;
+use table::Table;
 
-// What was reached in the queue: the next place, and how many strings it holds.
-#[derive(Clone, Copy)]
-struct Reached {
-    place: u32,
-    count: u32,
-}
+// While the queue holds no more strings than this, a turn, of up to 540, leaves the digits behind it free
+const ROOM: u32 = (NOTES / 4 - 540) as u32;
 
-// ---- one turn
+// ---- one turn; SHORT says whether the queue is short
 
-// The first k strings of xs, each discovered unless it has an entry.
-fn visits(
-    table: &mut [u8],
-    queue: &mut [u8],
-    short: bool,
-    xs: &[u32; 540],
-    gs: &[u32; 540],
-    k: usize,
-    depth: u32,
-    count: u32,
-) -> u32
-    requires k_le_natives { (k ≤ natives) × Good qubits (state table.old (strung short queue.old) count) × Notes short qubits queue.old table.old × Room short count natives }
-    requires by_index { (j : ℕ) → j < k → Asks qubits (state table.old (strung short queue.old) count) (at xs.now j) depth (at gs.now j) }
-    ensures { (state table.new (strung short queue.new) result ≡ in_turn k (listed_tried xs.now gs.now depth) (state table.old (strung short queue.old) count)) × Notes short qubits queue.new table.new }
+// The strings that were gathered, each discovered unless it has an entry. By index, as the contract asks: a zip of the two
+// arrays would be no plainer, since its proof follows what is left of both.
+fn visits<const SHORT: bool>(b: &mut Build<'_>, moved: &Moved, depth: u32)
+    requires sound { Sound SHORT qubits b.old × Room SHORT b.old.count natives }
+    requires by_index { (j : ℕ) → j < moved.now.count → Asks qubits (held SHORT b.old) (at moved.now.strings j) depth (at moved.now.natives j) }
+    ensures same_reference { Lent b.old b.new }
+    ensures comes { Comes SHORT qubits b.new (in_turn moved.now.count (listed_tried moved.now.strings moved.now.natives depth) (held SHORT b.old)) }
 {
-    let mut c = count;
-    let mut j: usize = 0;
-    while j < k {
-        c = discovery::discover_unchecked(table, queue, short, c, xs[j], depth, gs[j]);
-        j += 1;
+    for j in 0..moved.count {
+        b.discover_unchecked::<SHORT>(moved.strings[j], depth, moved.natives[j]);
     }
-    c
 }
 
-// The turn of p. xs and gs are scratch.
-fn turn(
-    table: &mut [u8],
-    queue: &mut [u8],
-    short: bool,
-    rs: &[u32; 540],
-    ns: &[u32; 540],
-    m: usize,
-    xs: &mut [u32; 540],
-    gs: &mut [u32; 540],
-    p: u32,
-    depth: u32,
-    count: u32,
-) -> u32
-    requires scratch { Scratch xs.old gs.old × Rotations qubits rs.now ns.now m × Moving qubits p depth (state table.old (strung short queue.old) count) }
-    requires notes { Notes short qubits queue.old table.old × Room short count natives }
-    ensures { Scratch xs.new gs.new × (state table.new (strung short queue.new) result ≡ in_turn m (packed_tried qubits rs.now ns.now p depth) (state table.old (strung short queue.old) count)) × Notes short qubits queue.new table.new }
+// The turn of p. What moved holds is overwritten. It stands beside b, as the rotations do: they end with the search.
+fn turn<const SHORT: bool>(b: &mut Build<'_>, r: &Rotations, moved: &mut Moved, p: u32, depth: u32)
+    requires sound { Sound SHORT qubits b.old × Room SHORT b.old.count natives }
+    requires moving { Moving qubits p depth (held SHORT b.old) }
+    ensures same_reference { Lent b.old b.new }
+    ensures comes { Comes SHORT qubits b.new (in_turn r.now.count (packed_tried qubits r.now.strings r.now.natives p depth) (held SHORT b.old)) }
 {
-    let k = moves::gather_unchecked(p, rs, ns, m, xs, gs);
-    visits(table, queue, short, xs, gs, k, depth, count)
+    moved.gather_unchecked(p, r);
+    visits::<SHORT>(b, moved, depth);
 }
 
 // The turn of p, unless the filter shows that it finds nothing.
-fn visit(
-    table: &mut [u8],
-    queue: &mut [u8],
-    short: bool,
-    rs: &[u32; 540],
-    ns: &[u32; 540],
-    m: usize,
-    xs: &mut [u32; 540],
-    gs: &mut [u32; 540],
-    filter: &[u8; 262144],
+fn visit<const SHORT: bool>(
+    b: &mut Build<'_>,
+    r: &Rotations,
+    moved: &mut Moved,
+    filter: &Filter,
     p: u32,
-    count: u32,
-) -> u32
-    requires scratch { Scratch xs.old gs.old × Rotations qubits rs.now ns.now m × Covers qubits rs.now m filter.now table.old × Moving qubits p (depth (entry table.old p) + 1) (state table.old (strung short queue.old) count) }
-    requires notes { Notes short qubits queue.old table.old × Room short count natives }
-    ensures { Scratch xs.new gs.new × (state table.new (strung short queue.new) result ≡ in_turn m (packed_tried qubits rs.now ns.now p (depth (entry table.old p) + 1)) (state table.old (strung short queue.old) count)) × Notes short qubits queue.new table.new }
+)
+    requires sound { Sound SHORT qubits b.old × Room SHORT b.old.count natives }
+    requires covers { Covers qubits r.now.strings r.now.count filter.now.digits b.old.table.now }
+    requires moving { Moving qubits p (depth (entry b.old.table.now p) + 1) (held SHORT b.old) }
+    ensures same_reference { Lent b.old b.new }
+    ensures comes { Comes SHORT qubits b.new (in_turn r.now.count (packed_tried qubits r.now.strings r.now.natives p (depth (entry b.old.table.now p) + 1)) (held SHORT b.old)) }
 {
-    if digits::is_clear_unchecked(filter, p) {
-        return count;
+    if filter.is_clear_unchecked(p) {
+        return;
     }
-    let v = table::entry_unchecked(table, p);
-    turn(
-        table,
-        queue,
-        short,
-        rs,
-        ns,
-        m,
-        xs,
-        gs,
-        p,
-        v / 1024 + 1,
-        count,
-    )
+    // Lent as `&mut`, here and below: that a shared loan leaves the table as it was does not reach the proof
+    let table = &mut *b.table;
+    let v = Table { bytes: table }.entry_unchecked(p);
+    turn::<SHORT>(b, r, moved, p, v / 1024 + 1);
 }
 
 // ---- the search
 
 // Whether a queue that is to stay short has no room for another turn.
-fn is_full(short: bool, count: u32) -> bool
-    ensures { (result ≡ false → Room short count natives) × (result ≡ true → short ≡ true) }
+fn is_full<const SHORT: bool>(count: u32) -> bool
+    ensures { (result ≡ false → Room SHORT count natives) × (result ≡ true → SHORT ≡ true) }
 {
-    if short {
-        return SHORT < count;
-    }
-    false
+    SHORT && ROOM < count
 }
 
-// The queue from one place on, place by place, with the rotations packed: to its end, or as long as it is short.
-fn scan(
-    table: &mut [u8],
-    queue: &mut [u8],
-    short: bool,
-    rs: &[u32; 540],
-    ns: &[u32; 540],
-    m: usize,
-    xs: &mut [u32; 540],
-    gs: &mut [u32; 540],
-    filter: &mut [u8; 262144],
+// The queue from one place on, place by place, with the rotations packed: to its end, or as long as it is short. The answer
+// is the next place.
+fn scan<const SHORT: bool>(
+    b: &mut Build<'_>,
+    r: &Rotations,
+    moved: &mut Moved,
+    filter: &mut Filter,
     from: u32,
-    count: u32,
-) -> Reached
-    requires scratch { Scratch xs.old gs.old × Rotations qubits rs.now ns.now m × Covers qubits rs.now m filter.old table.old × Good qubits (state table.old (strung short queue.old) count) }
-    requires notes { Notes short qubits queue.old table.old × (from ≤ 4 ^ qubits) }
-    ensures { Scratch xs.new gs.new × Covers qubits rs.now m filter.new table.new × Reaches qubits short rs.now ns.now m from (state table.old (strung short queue.old) count) result.place (state table.new (strung short queue.new) result.count) }
+) -> u32
+    requires sound { Sound SHORT qubits b.old × (from ≤ 4 ^ qubits) }
+    requires covers { Covers qubits r.now.strings r.now.count filter.old.digits b.old.table.now }
+    ensures same_reference { Lent b.old b.new }
+    ensures covers { Covers qubits r.now.strings r.now.count filter.new.digits b.new.table.now }
+    ensures reaches { Reaches qubits SHORT r.now.strings r.now.natives r.now.count from (held SHORT b.old) result (held SHORT b.new) }
 {
-    let mut c = count;
     let mut i = from;
-    let mut since: u32 = 0;
-    while i < c {
-        if is_full(short, c) {
-            return Reached { place: i, count: c };
-        }
-        let p = table::entry_unchecked(queue, i);
-        since = digits::refresh_unchecked(table, rs, m, filter, p, since, c);
-        c = visit(table, queue, short, rs, ns, m, xs, gs, filter, p, c);
+    filter.since = 0;
+    // No `for`: each turn puts more strings behind the end
+    while i < b.count && !is_full::<SHORT>(b.count) {
+        let queue = &mut *b.queue;
+        let p = Table { bytes: queue }.entry_unchecked(i);
+        let table = &mut *b.table;
+        filter.refresh_unchecked(Table { bytes: table }, r, p, b.count);
+        visit::<SHORT>(b, r, moved, filter, p);
         i += 1;
     }
-    Reached { place: i, count: c }
+    i
 }
 
 // The bytes from one on are cleared.
@@ -175,49 +130,22 @@ fn clear_from(bytes: &mut [u8], from: usize)
 }
 
 // All strings in order of discovery.
-pub fn search_unchecked(
-    table: &mut [u8],
-    queue: &mut [u8],
-    strings: &[u32],
-    kept: &[bool; 540],
-    count: u32,
-) -> u32
-    requires held { Held qubits strings.now × (kept.now ≡ flags (at strings.now)) }
-    requires good { Good qubits (state table.old (strung true queue.old) count) × Notes true qubits queue.old table.old }
-    ensures { state table.new queue.new result ≡ in_turn (4 ^ qubits) (expand qubits (at strings.now)) (state table.old (strung true queue.old) count) }
+pub fn search_unchecked(b: &mut Build<'_>, natives: &Natives)
+    requires { Sound true qubits b.old }
+    ensures same_reference { Lent b.old b.new }
+    ensures searched { held false b.new ≡ in_turn (4 ^ qubits) (expand qubits (at natives.now.strings)) (held true b.old) }
 {
-    let mut rs = [0u32; 540];
-    let mut ns = [0u32; 540];
-    let mut xs = [0u32; 540];
-    let mut gs = [0u32; 540];
-    let mut filter = [255u8; 262144];
-    let m = rotations::pack_unchecked(strings, kept, &mut rs, &mut ns);
-    let first = scan(
-        table,
-        queue,
-        true,
-        &rs,
-        &ns,
-        m,
-        &mut xs,
-        &mut gs,
-        &mut filter,
-        0,
-        count,
-    );
-    clear_from(queue, 65011712);
-    let last = scan(
-        table,
-        queue,
-        false,
-        &rs,
-        &ns,
-        m,
-        &mut xs,
-        &mut gs,
-        &mut filter,
-        first.place,
-        first.count,
-    );
-    last.count
+    let r = rotations::pack_unchecked(natives);
+    let mut moved = Moved {
+        strings: [0; 540],
+        natives: [0; 540],
+        count: 0,
+    };
+    let mut filter = Filter {
+        digits: [255; 262144],
+        since: 0,
+    };
+    let place = scan::<true>(b, &r, &mut moved, &mut filter, 0);
+    clear_from(b.queue, NOTES);
+    scan::<false>(b, &r, &mut moved, &mut filter, place);
 }

@@ -1,145 +1,136 @@
-// Answers as text on standard output, for the programs that are held to what they write.
-// No function gives an error but that of a write that failed; what it wrote before may stand.
+// Answers as text, for the programs that are held to what they write: what an answer holds, or `refused=` and document 01's number.
+// No function that writes gives an error but that of a write that failed; what it wrote before may stand.
 #![tactic(auto)]
 
-use bicycle_common::{BicycleISA, Outcome, Refusal};
-use compile::RotationAnswer;
-use native_measurement::{ImplementationAnswer, NativeNumber};
-use pauli_string::{BoolAnswer, Letter, PauliString, StringAnswer};
-use std::io;
-use text::WriteAnswer;
+ghost use Rattle.std.specs.Prelude.{◌≡◌, length};
+ghost use Rattle.std.specs.Io.{ReadsAtMost};
 
-pub const IDENTITY: [[u8; 6]; 6] = [
-    [1, 0, 0, 0, 0, 0],
-    [0, 1, 0, 0, 0, 0],
-    [0, 0, 1, 0, 0, 0],
-    [0, 0, 0, 1, 0, 0],
-    [0, 0, 0, 0, 1, 0],
-    [0, 0, 0, 0, 0, 1],
-];
+use bicycle_common::{BicycleISA, Refusal};
+use native_measurement::NativeNumber;
+use pauli_string::PauliString;
+use std::fmt::{Display, Formatter};
+use std::io::Read;
+use std::{fmt, io};
 
-pub fn say(rt: &impl Print, words: &[u8]) -> io::Result<()> {
-    rt.write_all(words)
-}
+// ---- what prints
 
-pub fn space(rt: &impl Print) -> io::Result<()> {
-    say(rt, b" ")
-}
+// An answer: what it holds, or the refusal.
+#[derive(Clone, Copy)]
+pub struct Shown<T>(pub Result<T, Refusal>);
 
-pub fn number(rt: &impl Print, n: u64) -> io::Result<()> {
-    rt.print(n)
-}
-
-pub fn refused(rt: &impl Print, r: Refusal) -> io::Result<()> {
-    say(rt, b"refused=")?;
-    number(rt, r.number() as u64)?;
-    let needed = r.needed();
-    if needed != 0 {
-        say(rt, b" needed=")?;
-        number(rt, needed as u64)?;
+impl<T: Display> Display for Shown<T> {
+    fn fmt<W: fmt::Write>(&self, f: &mut Formatter<W>) -> fmt::Result {
+        match &self.0 {
+            Ok(value) => write!(f, "{value}"),
+            Err(r) => write!(f, "{}", Refused(*r)),
+        }
     }
-    Ok(())
 }
 
-pub fn flag(rt: &impl Print, answer: BoolAnswer) -> io::Result<()> {
-    match answer {
-        BoolAnswer::Is(b) => number(rt, b as u64),
-        BoolAnswer::Refused(r) => refused(rt, r),
+// A refusal: document 01's number, and the length needed where there is one.
+#[derive(Clone, Copy)]
+pub struct Refused(pub Refusal);
+
+impl Display for Refused {
+    fn fmt<W: fmt::Write>(&self, f: &mut Formatter<W>) -> fmt::Result {
+        write!(f, "refused={}", self.0.number())?;
+        // 0 where there is none, as `needed` answers it
+        // 0 where there is none, as `needed` answers it
+        match self.0.needed() {
+            0 => Ok(()),
+            needed => write!(f, " needed={needed}"),
+        }
     }
+}
+
+// Twelve letters, by their capitals.
+#[derive(Clone, Copy)]
+pub struct Capitals([u8; 12]);
+
+impl Display for Capitals {
+    fn fmt<W: fmt::Write>(&self, f: &mut Formatter<W>) -> fmt::Result {
+        for b in &self.0 {
+            f.write_char(char::from(*b))?;
+        }
+        Ok(())
+    }
+}
+
+// Instructions, a space between each and the next, by `Display`, where `display::Expansion` puts bytes.
+#[derive(Clone, Copy)]
+pub struct Instructions<const N: usize>([BicycleISA; N]);
+
+impl<const N: usize> Display for Instructions<N> {
+    fn fmt<W: fmt::Write>(&self, f: &mut Formatter<W>) -> fmt::Result {
+        for (i, isa) in self.0.iter().enumerate() {
+            if i != 0 {
+                f.write_char(' ')?;
+            }
+            write!(f, "{isa}")?;
+        }
+        Ok(())
+    }
+}
+
+// ---- of answers
+
+// True as 1, false as 0.
+pub fn flag(answer: Result<bool, Refusal>) -> Shown<u8> {
+    Shown(answer.map(u8::from))
 }
 
 // The number of a string.
-pub fn string(rt: &impl Print, answer: StringAnswer) -> io::Result<()> {
-    match answer {
-        StringAnswer::Is(p) => number(rt, p.0 as u64),
-        StringAnswer::Refused(r) => refused(rt, r),
-    }
+pub fn string(answer: Result<PauliString, Refusal>) -> Shown<u32> {
+    Shown(answer.map(|p| p.0))
 }
 
-pub fn text(rt: &impl Print, p: PauliString) -> io::Result<()> {
-    let answer = p.display();
-    let outcome = answer.outcome;
-    let bytes = answer.bytes;
-    match outcome {
-        Outcome::Done => say(rt, &bytes),
-        Outcome::Refused(r) => refused(rt, r),
-    }
-}
-
-pub fn letter(rt: &impl Print, l: Letter) -> io::Result<()> {
-    let p = l.0;
-    say(rt, &[p.display()])
-}
-
-fn twelve(rt: &impl Print, letters: [Letter; 12]) -> io::Result<()> {
-    let mut i: usize = 0;
-    while i < 12 {
-        letter(rt, letters[i])?;
-        i += 1;
-    }
-    Ok(())
+pub fn text(p: PauliString) -> Shown<Capitals> {
+    Shown(p.display().map(Capitals))
 }
 
 // The letters of a string, qubit 0 first.
-pub fn letters(rt: &impl Print, p: PauliString) -> io::Result<()> {
-    let answer = p.letters();
-    let outcome = answer.outcome;
-    let letters = answer.letters;
-    match outcome {
-        Outcome::Done => twelve(rt, letters),
-        Outcome::Refused(r) => refused(rt, r),
-    }
-}
-
-// The first `length` bytes. The test stands for a proof that there are so many.
-fn front(rt: &impl Print, bytes: &[u8], length: usize) -> io::Result<()> {
-    if length <= bytes.len() {
-        say(rt, &bytes[0..length])?;
-    }
-    Ok(())
-}
-
-fn instruction(rt: &impl Print, isa: BicycleISA) -> io::Result<()> {
-    let text = isa.display();
-    let bytes = text.bytes;
-    front(rt, &bytes, text.len)
-}
-
-fn three(rt: &impl Print, a: BicycleISA, b: BicycleISA, c: BicycleISA) -> io::Result<()> {
-    instruction(rt, a)?;
-    space(rt)?;
-    instruction(rt, b)?;
-    space(rt)?;
-    instruction(rt, c)
+pub fn letters(p: PauliString) -> Shown<Capitals> {
+    Shown(
+        p.letters()
+            .map(|letters| Capitals(letters.map(|l| l.display()))),
+    )
 }
 
 // The expansion of a native.
-pub fn native(rt: &impl Print, n: NativeNumber) -> io::Result<()> {
-    match native_measurement::implementation(n) {
-        ImplementationAnswer::Is(a, b, c) => three(rt, a, b, c),
-        ImplementationAnswer::Refused(r) => refused(rt, r),
-    }
+pub fn native(n: NativeNumber) -> Shown<Instructions<3>> {
+    Shown(native_measurement::implementation(n).map(Instructions))
 }
 
 // The expansion of a rotation by a native.
-pub fn rotation(rt: &impl Print, mx: &[u8], my: &[u8], n: NativeNumber) -> io::Result<()> {
-    match compile::rotation_instructions(mx, my, n) {
-        RotationAnswer::Is(a, b, c, d, e) => {
-            instruction(rt, a)?;
-            space(rt)?;
-            three(rt, b, c, d)?;
-            space(rt)?;
-            instruction(rt, e)
-        }
-        RotationAnswer::Refused(r) => refused(rt, r),
-    }
+pub fn rotation(mx: &[u8], my: &[u8], n: NativeNumber) -> Shown<Instructions<5>> {
+    Shown(compile::rotation_instructions(mx, my, n).map(Instructions))
 }
 
-// The listing of a plan, or its refusal.
+// ---- of plans
+
+// Reads until the buffer is full or the input ends, and answers how many bytes stand at its front. An error is of a read that
+// failed, and the buffer's front then holds what was read before.
+pub fn read_full(input: &mut impl Read, buffer: &mut [u8]) -> io::Result<usize>
+    ensures front { ReadsAtMost result buffer.new }
+    ensures kept { length buffer.new ≡ length buffer.old }
+{
+    let mut done = 0;
+    // No `for`: the place moves by what a read gave, and `Read` fills no lent buffer as far as the input goes
+    while done < buffer.len() {
+        let n = input.read(&mut buffer[done..])?;
+        if n == 0 {
+            break;
+        }
+        done += n;
+    }
+    Ok(done)
+}
+
+// Writes the listing of a plan, or its refusal.
 pub fn plan(rt: &impl Print, input: &[u8]) -> io::Result<()> {
     let mut out = [0u8; 65536];
     match listing::list(input, &mut out) {
-        WriteAnswer::Is(length) => front(rt, &out, length),
-        WriteAnswer::Refused(r) => refused(rt, r),
+        Ok(length) => rt.write_all(&out[..length]),
+        Err(r) => print!(rt; "{}", Refused(r)),
     }
 }

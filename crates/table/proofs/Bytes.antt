@@ -1,14 +1,14 @@
 -- What is put into an entry is read from it, and every other entry stays; zeros read as zeros. Four bytes are put together by division.
 -- Assumes nothing.
 use mathlib.Core.Logic.{◌≢◌}
-use mathlib.Core.Path.{◌≡◌, ap, ◌∙◌}
-use mathlib.Core.List.{List, ◌++◌, append-nil}
+use mathlib.Core.Path.{◌≡◌}
+use mathlib.Core.List.{List}
 use Prim.Native.Nat.{ℕ, ◌+◌, ◌*◌, ◌/◌, ◌%◌, ◌^◌, ◌≤◌, ◌<◌}
 use native.Mathlib.Omega.{arith}
 use native.Mathlib.Nat.{div-div-eq-div-mul, mod-eq_of_lt}
 use native.Mathlib.Decide.{dec_lt}
-use lib.ListN.{length, get_or, set, replicate, drop, length-set, get_or-replicate, length-replicate, get_or-eq_default}
-use lib.Seq.{get_or-set_same, get_or-set_other, drop-length}
+use lib.ListN.{length, get_or, set, replicate, length-set, get_or-replicate, length-replicate, get_or-eq_default}
+use lib.Seq.{get_or-set_same, get_or-set_other}
 use Rattle.table.specs.Bytes.{entry, put, zeros}
 
 pub length_put : (t : List ℕ) (p v : ℕ) → length (put t p v) ≡ length t
@@ -100,11 +100,3 @@ entry_zeros n p = omega (arith, get_or_zeros n (4 * p), get_or_zeros n (4 * p + 
 pub length_zeros : (n : ℕ) → length (zeros n) ≡ n
 unfolding zeros
 length_zeros n = length-replicate n 0
-
--- a buffer of which every byte has been cleared
-pub zeros_whole : (d : List ℕ) (i : ℕ) → i ≡ length d → replicate i 0 ++ drop i d ≡ zeros (length d)
-unfolding zeros
-zeros_whole d i z =
-    ap (λ (k : ℕ). replicate k 0 ++ drop k d) z
-    ∙ ap (λ (t : List ℕ). replicate (length d) 0 ++ t) (drop-length d)
-    ∙ append-nil (replicate (length d) 0)

@@ -1,32 +1,30 @@
 -- What each public call answers: 1 for bytes that are no table of the strings of q letters, 4 for a number that is no string, 7 where there is
 -- no value. The lowest number that applies is given. Assumes nothing.
-use Rattle.std.specs.Prelude.{Bool, cond, not, ◌&&◌, List, [], ◌∷◌, ℕ, ◌^◌, eqb, length}
-use Rattle.bicycle_common.specs.declared.Refusal.TheVariants.{TableLength, Matrix, StringRange, NoEntry}
-use Rattle.bicycle_common.specs.declared.Outcome.{Outcome}
-use Rattle.bicycle_common.specs.declared.Outcome.TheVariants.{Done, Refused as NotDone}
-use Rattle.bicycle_common.specs.Refusals.{Told, answered, refused}
+use Rattle.std.specs.Prelude.{Bool, cond, not, ◌&&◌, List, [], ◌∷◌, ℕ, ◌^◌, eqb, length, Result, Ok, Err}
+use Rattle.bicycle_common.specs.declared.Refusal.{Refusal}
+use Rattle.bicycle_common.specs.declared.Refusal.TheVariants.{TableLength, Matrix, NoEntry}
+use Rattle.bicycle_common.specs.Refusals.{Told, told}
 use Rattle.bicycle_common.specs.Ranges.{most, all_below}
 use Rattle.shortest.specs.Counts.{entries_in}
-use Rattle.pauli_string.specs.declared.BoolAnswer.{BoolAnswer}
-use Rattle.pauli_string.specs.declared.BoolAnswer.TheVariants.{Is as BoolIs, Refused as NoBool}
-use Rattle.pauli_string.specs.Strings.{is_string}
+use Rattle.pauli_string.specs.Answers.{string_at}
 use Rattle.measurement.specs.Matrices.{is_bytes}
-use Rattle.table.specs.declared.NumberAnswer.{NumberAnswer}
-use Rattle.table.specs.declared.NumberAnswer.TheVariants.{Is as NumberIs, Refused as NoNumber}
 use Rattle.table.specs.Bytes.{table_length, entry}
 use Rattle.table.specs.Entries.{depth, field, cost}
 
-abbrev pub told_number : NumberAnswer → Told
-told_number (NumberIs n) = answered (n ∷ [])
-told_number (NoNumber r) = refused 1 r
+abbrev pub told_number : Result ℕ Refusal → Told
+told_number = told 1 (λ (n : ℕ). n ∷ [])
 
 -- the bytes have the length of a table
 abbrev pub is_table : ℕ → List ℕ → Bool
 is_table q t = eqb (length t) (table_length q)
 
+-- what a call answers of bytes that are a table, and else 1
+abbrev pub table_at : {A : Type 0} → ℕ → List ℕ → Result A Refusal → Result A Refusal
+table_at q t a = cond (is_table q t) a (Err TableLength)
+
 -- what a call on the table of a pair of matrices of side s tests first: 1, then 3
-abbrev pub given : ℕ → ℕ → List ℕ → List ℕ → List ℕ → Outcome
-given q s t mx my = cond (is_table q t) (cond (is_bytes s mx && is_bytes s my) Done (NotDone Matrix)) (NotDone TableLength)
+abbrev pub given : ℕ → ℕ → List ℕ → List ℕ → List ℕ → Result (Unit {0}) Refusal
+given q s t mx my = table_at q t (cond (is_bytes s mx && is_bytes s my) (Ok tt) (Err Matrix))
 
 -- ---- of the whole table
 
@@ -39,39 +37,38 @@ abbrev pub deepest : ℕ → List ℕ → ℕ
 deepest q t = most (4 ^ q) (λ (p : ℕ). depth (entry t p))
 
 -- true exactly when every value is 0
-abbrev pub is_empty : ℕ → List ℕ → BoolAnswer
-is_empty q t = cond (is_table q t) (BoolIs (all_below (4 ^ q) (λ (p : ℕ). eqb (entry t p) 0))) (NoBool TableLength)
+abbrev pub is_empty : ℕ → List ℕ → Result Bool Refusal
+is_empty q t = table_at q t (Ok (all_below (4 ^ q) (λ (p : ℕ). eqb (entry t p) 0)))
 
-abbrev pub len_of : ℕ → List ℕ → NumberAnswer
-len_of q t = cond (is_table q t) (NumberIs (entries q t)) (NoNumber TableLength)
+abbrev pub len_of : ℕ → List ℕ → Result ℕ Refusal
+len_of q t = table_at q t (Ok (entries q t))
 
 -- ---- at string p
 
-abbrev pub value_at : ℕ → List ℕ → ℕ → NumberAnswer
-value_at q t p = cond (is_table q t) (cond (is_string q p) (NumberIs (entry t p)) (NoNumber StringRange)) (NoNumber TableLength)
-
--- whether a value is an entry, where there is no refusal
-abbrev pub is_entry : NumberAnswer → BoolAnswer
-is_entry (NumberIs v) = BoolIs (not (eqb v 0))
-is_entry (NoNumber r) = NoBool r
-
-abbrev pub has_entry_at : ℕ → List ℕ → ℕ → BoolAnswer
-has_entry_at q t p = is_entry (value_at q t p)
+abbrev pub value_at : ℕ → List ℕ → ℕ → Result ℕ Refusal
+value_at q t p = table_at q t (string_at q p (Ok (entry t p)))
 
 -- what is answered of a value, where there is no refusal
-abbrev pub of_value : (ℕ → NumberAnswer) → NumberAnswer → NumberAnswer
-of_value f (NumberIs v) = f v
-of_value f (NoNumber r) = NoNumber r
+abbrev pub of_value : {A : Type 0} → (ℕ → Result A Refusal) → Result ℕ Refusal → Result A Refusal
+of_value f (Ok v) = f v
+of_value f (Err r) = Err r
 
-abbrev pub depth_at : ℕ → List ℕ → ℕ → NumberAnswer
-depth_at q t p = of_value (λ (v : ℕ). NumberIs (depth v)) (value_at q t p)
+-- whether a value is an entry, where there is no refusal
+abbrev pub is_entry : Result ℕ Refusal → Result Bool Refusal
+is_entry = of_value (λ (v : ℕ). Ok (not (eqb v 0)))
 
-abbrev pub field_at : ℕ → List ℕ → ℕ → NumberAnswer
-field_at q t p = of_value (λ (v : ℕ). NumberIs (field v)) (value_at q t p)
+abbrev pub has_entry_at : ℕ → List ℕ → ℕ → Result Bool Refusal
+has_entry_at q t p = is_entry (value_at q t p)
+
+abbrev pub depth_at : ℕ → List ℕ → ℕ → Result ℕ Refusal
+depth_at q t p = of_value (λ (v : ℕ). Ok (depth v)) (value_at q t p)
+
+abbrev pub field_at : ℕ → List ℕ → ℕ → Result ℕ Refusal
+field_at q t p = of_value (λ (v : ℕ). Ok (field v)) (value_at q t p)
 
 -- value 0 is no value
-abbrev pub costed : ℕ → ℕ → NumberAnswer
-costed p v = cond (eqb v 0) (NoNumber NoEntry) (NumberIs (cost p v))
+abbrev pub costed : ℕ → ℕ → Result ℕ Refusal
+costed p v = cond (eqb v 0) (Err NoEntry) (Ok (cost p v))
 
-abbrev pub cost_at : ℕ → List ℕ → ℕ → NumberAnswer
+abbrev pub cost_at : ℕ → List ℕ → ℕ → Result ℕ Refusal
 cost_at q t p = of_value (costed p) (value_at q t p)

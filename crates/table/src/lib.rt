@@ -11,209 +11,186 @@
 // (see NOTICE).
 #![tactic(auto)]
 
-ghost use Rattle.std.specs.Prelude.{◌≡◌, not, ℕ, ◌^◌, ◌<◌, eqb, length};
-ghost use Rattle.bicycle_common.specs.Letters.{flag};
+ghost use Rattle.std.specs.Prelude.{◌≡◌, false, MatchResult, ℕ, ◌^◌, ◌<◌, eqb, length};
 ghost use Rattle.bicycle_common.specs.Ranges.{all_below};
 ghost use Rattle.pauli_string.specs.Strings.{qubits};
 ghost use Rattle.measurement.specs.Matrices.{side};
 ghost use Rattle.table.specs.Bytes.{table_length, entry, put, zeros};
-ghost use Rattle.table.specs.Answers.{given, is_empty, entries, len_of, value_at, has_entry_at, depth_at, field_at, costed, cost_at};
+ghost use Rattle.table.specs.Answers.{is_table, given, is_empty, entries, len_of, value_at, has_entry_at, depth_at, field_at, costed, cost_at};
 
-use bicycle_common::{Outcome, Refusal};
-use pauli_string::{BoolAnswer, PauliString, STRINGS};
+use bicycle_common::Refusal;
+use measurement::Pair;
+use pauli_string::{PauliString, STRINGS};
 
 // The bytes of a table: four for each of the 4^12 strings
 pub const TABLE_LENGTH: usize = 67108864;
 
-// A number, or the refusal of it.
+// Lent bytes that are a table. Those that are written to are passed as slices: a `Table` lends its bytes to read.
 #[derive(Clone, Copy)]
-pub enum NumberAnswer {
-    Is(u32),
-    Refused(Refusal),
+pub struct Table<'a> {
+    pub bytes: &'a [u8],
+    pub ghost whole: { length bytes.now ≡ table_length qubits },
 }
 
 // ---- entries; these alone touch bytes
 
-fn wide(x: u8) -> u32
-    ensures { (result ≡ x) × (result < 256) }
-{
-    x as u32
-}
+impl<'a> Table<'a> {
+    // The table of the bytes: 1 where their number is another.
+    pub fn new(bytes: &'a [u8]) -> Result<Table<'a>, Refusal>
+        ensures { MatchResult result
+            (λ t. t.bytes ≡ bytes.entry)
+            (λ r. (r ≡ Refusal.TableLength) × (is_table qubits bytes.now ≡ false)) }
+    {
+        if bytes.len() == TABLE_LENGTH {
+            Ok(Table { bytes })
+        } else {
+            Err(Refusal::TableLength)
+        }
+    }
 
-// The value of entry p.
-pub fn entry_unchecked(table: &[u8], p: u32) -> u32
-    requires { (p < 4 ^ qubits) × (length table.now ≡ table_length qubits) }
-    ensures { result ≡ entry table.now p }
-{
-    let i = 4 * p as usize;
-    let a = wide(table[i]);
-    let b = wide(table[i + 1]);
-    let c = wide(table[i + 2]);
-    let d = wide(table[i + 3]);
-    a + 256 * b + 65536 * c + 16777216 * d
+    // The value of entry p, a number and no type of its own: p is a loop's counter, a product, or what an entry holds, and
+    // would have to be made a value of the type at each.
+    #[tactic(auto, unfolding(crate::specs::Bytes::entry))]
+    pub fn entry_unchecked(self, p: u32) -> u32
+        requires { p < 4 ^ qubits }
+        ensures { result ≡ entry self.entry.bytes.now p }
+    {
+        let i = 4 * p as usize;
+        u32::from_le_bytes([
+            self.bytes[i],
+            self.bytes[i + 1],
+            self.bytes[i + 2],
+            self.bytes[i + 3],
+        ])
+    }
 }
 
 // Puts the value v into entry p.
+#[tactic(auto, unfolding(crate::specs::Bytes::put))]
 pub fn put_unchecked(table: &mut [u8], p: u32, v: u32)
     requires { (p < 4 ^ qubits) × (length table.old ≡ table_length qubits) }
     ensures { table.new ≡ put table.old p v }
 {
     let i = 4 * p as usize;
-    table[i] = (v % 256) as u8;
-    table[i + 1] = (v / 256 % 256) as u8;
-    table[i + 2] = (v / 65536 % 256) as u8;
-    table[i + 3] = (v / 16777216 % 256) as u8;
+    table[i..i + 4].copy_from_slice(&v.to_le_bytes());
 }
 
 // Zeros everywhere.
+#[tactic(auto, unfolding(crate::specs::Bytes::zeros))]
 pub fn clear_unchecked(bytes: &mut [u8])
     ensures { bytes.new ≡ zeros (length bytes.old) }
 {
-    let mut i: usize = 0;
-    while i < bytes.len() {
-        bytes[i] = 0;
-        i += 1;
-    }
+    bytes.fill(0);
 }
 
 // ---- what is lent
 
 // Whether the bytes are a table and the matrices of a pair: 1, or 3, where they are not.
-pub fn given(table: &[u8], mx: &[u8], my: &[u8]) -> Outcome
+pub fn given(table: &[u8], mx: &[u8], my: &[u8]) -> Result<(), Refusal>
     ensures { result ≡ given qubits side table.now mx.now my.now }
 {
-    if table.len() != TABLE_LENGTH {
-        return Outcome::Refused(Refusal::TableLength);
-    }
-    if !measurement::is_matrix(mx) {
-        return Outcome::Refused(Refusal::Matrix);
-    }
-    if !measurement::is_matrix(my) {
-        return Outcome::Refused(Refusal::Matrix);
-    }
-    Outcome::Done
+    Table::new(table)?;
+    Pair::new(mx, my)?;
+    Ok(())
 }
 
 // ---- the whole table
 
-fn no_entry(table: &[u8]) -> bool
-    requires { length table.now ≡ table_length qubits }
-    ensures { result ≡ all_below (4 ^ qubits) (λ (p : ℕ). eqb (entry table.now p) 0) }
-{
-    let mut p: u32 = 0;
-    while p < STRINGS {
-        if entry_unchecked(table, p) != 0 {
-            return false;
+impl Table<'_> {
+    fn no_entry(self) -> bool
+        ensures { result ≡ all_below (4 ^ qubits) (λ (p : ℕ). eqb (entry self.entry.bytes.now p) 0) }
+    {
+        // No `all`: of a range its clause did not close
+        for p in 0..STRINGS {
+            if self.entry_unchecked(p) != 0 {
+                return false;
+            }
         }
-        p += 1;
+        true
     }
-    true
+
+    // How many values are not 0.
+    fn len_unchecked(self) -> u32
+        ensures { result ≡ entries qubits self.entry.bytes.now }
+    {
+        // No `filter` and `count`: in the table check they took a tenth longer
+        let mut n = 0;
+        for p in 0..STRINGS {
+            n += u32::from(self.entry_unchecked(p) != 0);
+        }
+        n
+    }
 }
 
 // Whether every value is 0.
-pub fn is_empty(table: &[u8]) -> BoolAnswer
+pub fn is_empty(table: &[u8]) -> Result<bool, Refusal>
     ensures { result ≡ is_empty qubits table.now }
 {
-    if table.len() != TABLE_LENGTH {
-        return BoolAnswer::Refused(Refusal::TableLength);
-    }
-    BoolAnswer::Is(no_entry(table))
+    Ok(Table::new(table)?.no_entry())
 }
 
-// 1 for a value that is not 0. The loop that counts has no branch, for speed.
-fn some(v: u32) -> u32
-    ensures { result ≡ flag (not (eqb v 0)) }
-{
-    if v == 0 { 0 } else { 1 }
-}
-
-// How many values are not 0.
-fn len_unchecked(table: &[u8]) -> u32
-    requires { length table.now ≡ table_length qubits }
-    ensures { result ≡ entries qubits table.now }
-{
-    let mut n: u32 = 0;
-    let mut p: u32 = 0;
-    while p < STRINGS {
-        n += some(entry_unchecked(table, p));
-        p += 1;
-    }
-    n
-}
-
-pub fn len(table: &[u8]) -> NumberAnswer
+pub fn len(table: &[u8]) -> Result<u32, Refusal>
     ensures { result ≡ len_of qubits table.now }
 {
-    if table.len() != TABLE_LENGTH {
-        return NumberAnswer::Refused(Refusal::TableLength);
-    }
-    NumberAnswer::Is(len_unchecked(table))
+    Ok(Table::new(table)?.len_unchecked())
 }
 
 // ---- one string
 
+// A value stays a number, taken apart by 1024 here and above: a type would be made and opened at each entry.
+
+// A value stays a number, taken apart by 1024 here and above: a type would be made and opened at each entry.
+
 // The value at string p, 0 where there is none.
-pub fn value(table: &[u8], p: PauliString) -> NumberAnswer
+pub fn value(table: &[u8], p: PauliString) -> Result<u32, Refusal>
     ensures { result ≡ value_at qubits table.now p.0 }
 {
-    if table.len() != TABLE_LENGTH {
-        return NumberAnswer::Refused(Refusal::TableLength);
-    }
+    let table = Table::new(table)?;
+    // As `PauliString::checked`, which is private: to share its test would take one more public call
+    // As `PauliString::checked`, which is private: to share its test would take one more public call
     if p.0 >= STRINGS {
-        return NumberAnswer::Refused(Refusal::StringRange);
+        return Err(Refusal::StringRange);
     }
-    NumberAnswer::Is(entry_unchecked(table, p.0))
+    Ok(table.entry_unchecked(p.0))
 }
 
 // Whether string p has an entry: a value that is not 0.
-pub fn has_entry(table: &[u8], p: PauliString) -> BoolAnswer
+pub fn has_entry(table: &[u8], p: PauliString) -> Result<bool, Refusal>
     ensures { result ≡ has_entry_at qubits table.now p.0 }
 {
-    match value(table, p) {
-        NumberAnswer::Is(v) => BoolAnswer::Is(v != 0),
-        NumberAnswer::Refused(r) => BoolAnswer::Refused(r),
-    }
+    Ok(value(table, p)? != 0)
 }
 
 // The depth at string p, 0 where there is no value.
-pub fn depth(table: &[u8], p: PauliString) -> NumberAnswer
+pub fn depth(table: &[u8], p: PauliString) -> Result<u32, Refusal>
     ensures { result ≡ depth_at qubits table.now p.0 }
 {
-    match value(table, p) {
-        NumberAnswer::Is(v) => NumberAnswer::Is(v / 1024),
-        NumberAnswer::Refused(r) => NumberAnswer::Refused(r),
-    }
+    Ok(value(table, p)? / 1024)
 }
 
 // The field at string p: a native's number and 1; 0 where there is no value, 541 at the identity of a built table.
-pub fn field(table: &[u8], p: PauliString) -> NumberAnswer
+pub fn field(table: &[u8], p: PauliString) -> Result<u32, Refusal>
     ensures { result ≡ field_at qubits table.now p.0 }
 {
-    match value(table, p) {
-        NumberAnswer::Is(v) => NumberAnswer::Is(v % 1024),
-        NumberAnswer::Refused(r) => NumberAnswer::Refused(r),
-    }
+    Ok(value(table, p)? % 1024)
 }
 
 // What a value costs at string p.
-fn costed(p: u32, v: u32) -> NumberAnswer
+fn costed(p: u32, v: u32) -> Result<u32, Refusal>
     ensures { result ≡ costed p v }
 {
     if v == 0 {
-        return NumberAnswer::Refused(Refusal::NoEntry);
+        return Err(Refusal::NoEntry);
     }
     if p == 0 {
-        return NumberAnswer::Is(0);
+        return Ok(0);
     }
-    NumberAnswer::Is(1 + 2 * (v / 1024))
+    Ok(1 + 2 * (v / 1024))
 }
 
 // What the measurement of string p costs, as the original counts: 1, and 2 for each rotation; nothing for the identity.
-pub fn cost(table: &[u8], p: PauliString) -> NumberAnswer
+pub fn cost(table: &[u8], p: PauliString) -> Result<u32, Refusal>
     ensures { result ≡ cost_at qubits table.now p.0 }
 {
-    match value(table, p) {
-        NumberAnswer::Is(v) => costed(p.0, v),
-        NumberAnswer::Refused(r) => NumberAnswer::Refused(r),
-    }
+    costed(p.0, value(table, p)?)
 }

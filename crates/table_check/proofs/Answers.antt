@@ -1,47 +1,34 @@
 -- Where the check stops decides its answer, and two permitted answers are the same. Assumes nothing.
-use mathlib.Core.Bool.{Bool, true, false, true≢false}
+use mathlib.Core.Bool.{Bool, true, false}
 use mathlib.Core.List.{List}
-use mathlib.Core.Path.{◌≡◌, refl, sym, ap, ◌∙◌}
+use mathlib.Core.Path.{◌≡◌, refl, ap}
 use Prim.Native.Nat.{ℕ, ◌^◌, ◌<◌, ◌≤◌}
+use borrow.Author.Tests.{ltb-true, ltb-false}
+use lib.Dec.{ltb}
 use native.Mathlib.Omega.{arith}
 use native.Mathlib.Decide.{ℕ_discrete, dec_lt}
+use Rattle.std.specs.Prelude.{Option, Some, None, Result, Ok, Err}
+use Rattle.std.specs.Bool.{then_some}
 use Rattle.bicycle_common.specs.declared.Refusal.{Refusal}
-use Rattle.bicycle_common.specs.declared.Outcome.{Outcome}
-use Rattle.bicycle_common.specs.declared.Outcome.TheVariants.{Done, Refused as NotDone}
+use Rattle.pauli_string.specs.declared.PauliString.{PauliString}
 use Rattle.measurement.specs.Measures.{pair_string}
 use Rattle.table.specs.Answers.{given}
 use Rattle.table.specs.Bytes.{entry}
-use Rattle.table_check.specs.declared.CheckAnswer.{CheckAnswer}
-use Rattle.table_check.specs.declared.CheckAnswer.TheVariants.{Accepted, Rejected, Refused}
-use Rattle.table_check.specs.Answers.{Passes, Fails, Checked}
+use Rattle.table_check.specs.Answers.{Fails, Checked}
 use Rattle.table_check.specs.Tests.{Stops}
-
--- an outcome has one refusal
-refused_one : (k l : Refusal) → NotDone k ≡ NotDone l → k ≡ l
-refused_one k l e = ap reason e
-  where
-    reason : Outcome → Refusal
-    reason Done = k
-    reason (NotDone r) = r
 
 module _ (q s : ℕ) (t mx my : List ℕ) where
   -- ---- where the check stops
 
-  module _ (r : ℕ) (done : given q s t mx my ≡ Done) (h : Stops q (pair_string s mx my) (entry t) r) where
-    pub stops_fails : r < 4 ^ q → Fails q s t mx my r
-    stops_fails l = record { done = done; index = l; breaks = h.breaks l; lowest = h.meets }
+  module _ (r : ℕ) (done : given q s t mx my ≡ Ok tt) (h : Stops q (pair_string s mx my) (entry t) r) where
+    stops_by : (b : Bool) → (b ≡ true → r < 4 ^ q) → (b ≡ false → 4 ^ q ≤ r) → Checked q s t mx my (Ok (then_some b (record { 0 = r })))
+    stops_by true below _ = record { done = done; index = below refl; breaks = h.breaks (below refl); lowest = h.meets }
+    stops_by false _ behind = let l = behind refl in record { done = done; every = λ p g. h.meets p (omega arith) }
 
-    pub stops_passes : 4 ^ q ≤ r → Passes q s t mx my
-    stops_passes l = record { done = done; every = λ p g. h.meets p (omega arith) }
+    pub stops_checked : Checked q s t mx my (Ok (then_some (ltb r (4 ^ q)) (record { 0 = r })))
+    stops_checked = stops_by (ltb r (4 ^ q)) (ltb-true r (4 ^ q)) (ltb-false r (4 ^ q))
 
   -- ---- one answer
-
-  refused_done : {A : Type 0} (r : Refusal) → given q s t mx my ≡ NotDone r → given q s t mx my ≡ Done → A
-  refused_done r e d = absurd (true≢false (ap is_done (sym d ∙ e)))
-    where
-      is_done : Outcome → Bool
-      is_done Done = true
-      is_done (NotDone r) = false
 
   -- an index that breaks its rule is not below the lowest that does
   lowest_one : (i j : ℕ) → Fails q s t mx my i → Fails q s t mx my j → i ≡ j
@@ -51,13 +38,13 @@ module _ (q s : ℕ) (t mx my : List ℕ) where
   ]
 
   -- two permitted answers are the same
-  pub checked_one : (a b : CheckAnswer) → Checked q s t mx my a → Checked q s t mx my b → a ≡ b
-  checked_one Accepted Accepted h g = refl
-  checked_one Accepted (Rejected j) h g = absurd (g.breaks (h.every j.0 g.index))
-  checked_one Accepted (Refused l) h g = refused_done l g h.done
-  checked_one (Rejected i) Accepted h g = absurd (h.breaks (g.every i.0 h.index))
-  checked_one (Rejected i) (Rejected j) h g = ap (λ (n : ℕ). Rejected (record { 0 = n })) (lowest_one i.0 j.0 h g)
-  checked_one (Rejected i) (Refused l) h g = refused_done l g h.done
-  checked_one (Refused k) Accepted h g = refused_done k h g.done
-  checked_one (Refused k) (Rejected j) h g = refused_done k h g.done
-  checked_one (Refused k) (Refused l) h g = ap Refused (refused_one k l (sym h ∙ g))
+  pub checked_one : (a b : Result (Option PauliString) Refusal) → Checked q s t mx my a → Checked q s t mx my b → a ≡ b
+  checked_one (Ok None) (Ok None) h g = refl
+  checked_one (Ok None) (Ok (Some j)) h g = absurd (g.breaks (h.every j.0 g.index))
+  checked_one (Ok (Some i)) (Ok None) h g = absurd (h.breaks (g.every i.0 h.index))
+  checked_one (Ok (Some i)) (Ok (Some j)) h g = ap (λ (n : ℕ). Ok (Some (record { 0 = n }))) (lowest_one i.0 j.0 h g)
+  checked_one (Ok None) (Err l) h g = cc (h.done, g)
+  checked_one (Ok (Some i)) (Err l) h g = cc (h.done, g)
+  checked_one (Err k) (Ok None) h g = cc (h, g.done)
+  checked_one (Err k) (Ok (Some j)) h g = cc (h, g.done)
+  checked_one (Err k) (Err l) h g = cc (h, g)

@@ -21,7 +21,7 @@ module _ (q : ℕ) (f e : ℕ → ℕ) (small : (n : ℕ) → f n < 4 ^ q) (fits
       below = rotate_string q p (f n) (omega (arith, L.within, S.within)) (small n);
       holds = (
         λ z. some (rotate_nonzero q p (f n) z),
-        record { low = omega arith; native = n; rotation = t; here = record { is = rotate_rotate q p (f n); high = w } },
+        record { low = omega arith; native = n; rotation = t; is = rotate_rotate q p (f n); high = w },
       );
     })
   ]
@@ -34,11 +34,11 @@ module _ (q : ℕ) (f e : ℕ → ℕ) (small : (n : ℕ) → f n < 4 ^ q) (fits
       go b =
           let a = b.holds.1 in
           let n = a.native in
-          let z = a.here.is in
+          let z = a.is in
           let back : b.by ≡ leads q f r n = sym (rotate_rotate q b.by (f n)) ∙ ap (λ (x : ℕ). leads q f x n) z in
           let some : r ≡ 0 → ⊥ = λ w. b.holds.0 (rotate_nonzero q b.by (f n) (z ∙ w)) in
           rule_calm q f e r some (S.right r some l) fits rule n a.rotation
-          (subst (λ (x : ℕ). height (e x) + 2 ≤ height (e r)) back a.here.high)
+          (subst (λ (x : ℕ). height (e x) + 2 ≤ height (e r)) back a.high)
 
   pub sunk_stops : e 0 ≡ identity → Stops q f e r
   sunk_stops h = record {

@@ -6,101 +6,87 @@ use mathlib.Core.Path.{◌≡◌, sym, ap, subst, ◌∙◌}
 use Prim.Native.Nat.{ℕ, ◌+◌, ◌-◌, ◌*◌, ◌^◌, ◌≤◌, ◌<◌}
 use native.Mathlib.Omega.{arith}
 use native.Mathlib.Decide.{ℕ_discrete, dec_lt}
-use lib.ListN.{set, length-set}
-use Rattle.bicycle_common.proofs.Ranges.{stored_more}
-use Rattle.pauli_string.specs.Strings.{conj, rotate}
+use Rattle.std.proofs.Common.{length, take, All}
+use Rattle.std.proofs.lemmas.List.{get_or-take, length-take, length-take-le}
+use Rattle.std.proofs.lemmas.List.Elements.{All-get_or, All-from_get_or}
+use Rattle.pauli_string.specs.Strings.{qubits, conj, rotate}
 use Rattle.pauli_string.proofs.Commutation.{conj_lt}
-use Rattle.pauli_string.proofs.Range.{four_pow}
 use Rattle.native_measurement.specs.Natives.{natives}
 use Rattle.natives.specs.Kept.{kept_for}
 use Rattle.natives.specs.Arrays.{at}
 use Rattle.shortest.specs.Graphs.{Has}
-use Rattle.table.specs.Bytes.{entry}
 use Rattle.table.specs.Entries.{depth, Names, KeptFor, Rotation, leads}
-use Rattle.table.specs.Rules.{NoNative, Down, Deep, Rule}
+use Rattle.table.specs.Rules.{NoNative, Deep, Rule}
 use Rattle.table.proofs.Rules.{kept_for_law, native_or_none}
+use Rattle.rotations.specs.declared.Rotations.{Rotations}
+use Rattle.rotations.specs.Packed.{Packed}
 use Rattle.rotations.proofs.Packed.{packed_each, packed_all}
-use Rattle.table_check.specs.Tests.{PackedIn, Packs, gap, height, Neighbours, Still, Calm, Measured, Rooted, Right, Tested, Least, High, Blames}
+use Rattle.table_check.specs.Tests.{Follows, gap, height, Neighbours, Low, Calm, Measured, Rooted, Right, Tested, Least, High, Blames}
 use Rattle.table_check.proofs.Heights.{height_gap, height_entry, height_low}
 use Rattle.table_check.proofs.Least.{least_same}
 
 -- ---- where rotations lead
 
--- what is packed are strings
-pub packs : (q : ℕ) (f : ℕ → ℕ) (rs : List ℕ) (m : ℕ) → PackedIn q f rs m → Packs q rs m
-packs q f rs m P = record { few = P.1.rotations.few; small = P.1.rotations.small }
+-- what is packed is followed
+pub packed_follows : (q : ℕ) (f : ℕ → ℕ) (rs ns : List ℕ) (m : ℕ) → Packed q f rs ns m natives → Follows q f rs ns m
+packed_follows q f rs ns m P = record {
+  each = λ i l. let n = packed_each P i l in record { below = n.0; is_rotation_law = n.1 };
+  all = λ n r none. let k = packed_all P n r.below r.is_rotation_law in none k.0 k.1 k.2;
+  strings = P.strings;
+}
 
 -- a string conjugated with a string is one
-conj_string : (q p r : ℕ) → p < 4 ^ q → r < 4 ^ q → conj q p r < 4 ^ q
-conj_string q p r hp hr =
-    let e = four_pow q in
-    subst (λ (n : ℕ). conj q p r < n) (sym e) (conj_lt q (q + q) p r (subst (λ (n : ℕ). p < n) e hp) (subst (λ (n : ℕ). r < n) e hr))
+pub neighbours_small : (r : Rotations) (p : ℕ) (xs : List ℕ) → Neighbours qubits p r.strings r.count xs → p < 4 ^ qubits → All (λ (x : ℕ). x < 4 ^ qubits) (take r.count xs)
+neighbours_small r p xs N h = All-from_get_or (λ (x : ℕ). x < 4 ^ qubits) (take r.count xs) 0 (λ i w.
+    let l : i < r.count = omega (arith, length-take r.count xs) in
+    subst (λ (x : ℕ). x < 4 ^ qubits) (sym (get_or-take r.count xs i 0 l ∙ N i l)) (conj_lt qubits 24 p (at r.strings i) h (r.blanked.small i)))
 
-module _ (q p : ℕ) (rs : List ℕ) (m : ℕ) (xs : List ℕ) (N : Neighbours q p rs m xs) where
-  -- each store leaves those before it
-  pub neighbours_more : (x : ℕ) → m < natives → x ≡ conj q p (at rs m) → Neighbours q p rs (m + 1) (set xs m x)
-  neighbours_more x l e = record {
-    long = length-set xs m x ∙ N.long;
-    each = stored_more (λ (i y : ℕ). y ≡ conj q p (at rs i)) xs 0 m x (omega (arith, N.long)) N.each e;
-  }
+module _ (r : Rotations) (p : ℕ) (xs : List ℕ) (long : length xs ≡ natives) (N : Neighbours qubits p r.strings r.count xs) where
+  abbrev front : List ℕ
+  front = take r.count xs
 
-  -- what is stored is a string
-  pub neighbours_small : p < 4 ^ q → Packs q rs m → (i : ℕ) → i < m → at xs i < 4 ^ q
-  neighbours_small hp hr i l = subst (λ (x : ℕ). x < 4 ^ q) (sym (N.each i l)) (conj_string q p (at rs i) hp (hr.small i))
+  front_long : length front ≡ r.count
+  front_long = length-take-le r.count xs (omega (arith, r.blanked.few))
 
-  module _ (f : ℕ → ℕ) (P : PackedIn q f rs m) where
+  front_at : (i : ℕ) → i < r.count → at front i ≡ conj qubits p (at r.strings i)
+  front_at i l = get_or-take r.count xs i 0 l ∙ N i l
+
+  module _ (f e : ℕ → ℕ) (F : Follows qubits f r.strings r.natives r.count) where
     -- what a packed rotation makes of p is where it leads
-    neighbours_lead : (i : ℕ) → i < m → at xs i ≡ leads q f p (at P.0 i)
+    neighbours_lead : (i : ℕ) → i < r.count → at front i ≡ leads qubits f p (at r.natives i)
     unfolding rotate
-    neighbours_lead i l = N.each i l ∙ ap (conj q p) (P.1.strings i l)
-
-    packed_rotation : (i : ℕ) → i < m → Rotation q f (at P.0 i)
-    packed_rotation i l = let n = packed_each P.1 i l in record { below = n.0; is_rotation_law = n.1 }
+    neighbours_lead i l = front_at i l ∙ ap (conj qubits p) (F.strings i l)
 
     -- so these strings are where all rotations lead
-    led : (n : ℕ) → Rotation q f n → (i : ℕ) × (i < m) × (at xs i ≡ leads q f p n)
-    led n r =
-        let k = packed_all P.1 n r.below r.is_rotation_law in
-        (k.0, k.1, neighbours_lead k.0 k.1 ∙ ap (leads q f p) k.2)
+    led : (n : ℕ) → Rotation qubits f n → ((i : ℕ) → i < r.count → at front i ≡ leads qubits f p n → ⊥) → ⊥
+    led n t none = F.all n t (λ i l z. none i l (neighbours_lead i l ∙ ap (leads qubits f p) z))
 
     -- where none of them stands two or more below h, no rotation leads there
-    pub still_calm : (t : List ℕ) (h : ℕ) → 2 ≤ h → h ≤ gap → Still t xs m (1024 * (h - 2) + 1023) ↔ Calm q f (entry t) p h
-    still_calm t h l g = (
-      λ s n r w. let k = led n r in
-          s k.0 k.1 ((height_low h (entry t (at xs k.0)) l g).1 (subst (λ (x : ℕ). height (entry t x) + 2 ≤ h) (sym k.2) w)),
-      λ s i j w. s (at P.0 i) (packed_rotation i j)
-          (subst (λ (x : ℕ). height (entry t x) + 2 ≤ h) (neighbours_lead i j) ((height_low h (entry t (at xs i)) l g).0 w)),
+    pub still_calm : (h : ℕ) → 2 ≤ h → h ≤ gap → All (λ (x : ℕ). Low (1024 * (h - 2) + 1023) (e x) → ⊥) front ↔ Calm qubits f e p h
+    still_calm h l g = (
+      λ s n t w. led n t (λ i j z.
+          All-get_or Quiet front i 0 (omega (arith, front_long)) s
+          ((height_low h (e (at front i)) l g).1 (subst (λ (x : ℕ). height (e x) + 2 ≤ h) (sym z) w))),
+      λ s. All-from_get_or Quiet front 0 (λ i j w.
+          let k : i < r.count = omega (arith, front_long) in
+          s (at r.natives i) (F.each i k)
+          (subst (λ (x : ℕ). height (e x) + 2 ≤ h) (neighbours_lead i k) ((height_low h (e (at front i)) l g).0 w))),
     )
+      where
+        Quiet : ℕ → Type 0
+        Quiet x = Low (1024 * (h - 2) + 1023) (e x) → ⊥
 
     -- and the lowest of them is the lowest to which a rotation leads
-    pub high_blames : (e : ℕ → ℕ) (top end r : ℕ) → height (e p) + 2 ≤ top → Least (High e (height (e p)) xs m) end r → Least (Blames q f e top p) end r
-    high_blames e top end r low = least_same (High e (height (e p)) xs m) (Blames q f e top p) end r
-        (λ x a. record {
+    pub high_blames : (top end s : ℕ) → height (e p) + 2 ≤ top → Least (High e (height (e p)) front (length front)) end s → Least (Blames qubits f e top p) end s
+    high_blames top end s low = least_same (High e (height (e p)) front (length front)) (Blames qubits f e top p) end s
+        (λ x a. let k : a.by < r.count = omega (arith, a.below, front_long) in record {
           low = low;
-          native = at P.0 a.by;
-          rotation = packed_rotation a.by a.below;
-          here = record { is = sym (neighbours_lead a.by a.below) ∙ a.holds.is; high = a.holds.high };
+          native = at r.natives a.by;
+          rotation = F.each a.by k;
+          is = sym (neighbours_lead a.by k) ∙ a.holds.0;
+          high = a.holds.1;
         })
-        (λ x a. let k = led a.native a.rotation in
-        record { by = k.0; below = k.1; holds = record { is = k.2 ∙ a.here.is; high = a.here.high } })
-
--- ---- one step down
-
-module _ (q : ℕ) (f e : ℕ → ℕ) (p : ℕ) where
-  -- the field names one native
-  pub down_named : (n : ℕ) → Names (e p) n → Down q f e p n ↔ ((k : ℕ) × Down q f e p k)
-  down_named n h = (λ d. (n, d), λ d. subst (Down q f e p) (same d.0 d.1.named) d.1)
-    where
-      same : (k : ℕ) → Names (e p) k → k ≡ n
-      same k g = omega arith
-
-  -- a rotation n that v names leads to the value w, which is an entry
-  pub down_depth : (n v w : ℕ) → v ≡ e p → w ≡ e (leads q f p n) → Rotation q f n → Names v n → (w ≡ 0 → ⊥)
-      → (depth w ≡ depth v - 1) ↔ Down q f e p n
-  down_depth n v w ev ew r h g = (
-    λ z. record { rotation = r; named = omega arith; has = λ y. g (ew ∙ y); less = omega arith },
-    λ d. omega (arith, d.less),
-  )
+        (λ x a none. led a.native a.rotation (λ i l z. none (record { by = i; below = omega (arith, front_long); holds = (z ∙ a.is, a.high) })))
 
 -- ---- the rule
 

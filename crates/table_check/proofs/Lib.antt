@@ -1,7 +1,7 @@
 -- Laws that belong to no one function: the tests of the check give the rule of one index, then, from both ends of the rotations, of all.
-pub mod Decides
 pub mod Heights
 pub mod Least
+pub mod Flags
 pub mod Index
 pub mod Stops
 pub mod Ends

@@ -1,35 +1,20 @@
 -- What the parts of the check decide. f n is the string of native n, e p the value at index p, over q qubits. Assumes nothing.
-use Rattle.std.specs.Prelude.{Bool, true, false, cond, List, ◌≡◌, ℕ, ◌+◌, ◌-◌, ◌^◌, ◌≤◌, ◌<◌, eqb, length}
-use Rattle.pauli_string.specs.Strings.{conj}
+use Rattle.std.specs.Prelude.{cond, List, ◌≡◌, ℕ, ◌+◌, ◌-◌, ◌^◌, ◌≤◌, ◌<◌, eqb}
+use Rattle.pauli_string.specs.Strings.{blank, conj}
 use Rattle.native_measurement.specs.Natives.{natives}
-use Rattle.natives.specs.Arrays.{at, Held, flags}
-use Rattle.table.specs.Bytes.{table_length, entry}
+use Rattle.natives.specs.Arrays.{at}
 use Rattle.shortest.specs.Graphs.{Has}
 use Rattle.table.specs.Entries.{depth, KeptFor, Rotation, leads}
 use Rattle.table.specs.Rules.{Down, Rule}
-use Rattle.rotations.specs.Packed.{Packed}
-
--- what a test answers: true where the statement holds, false where it does not
-abbrev pub Decides : Bool → Type 0 → Type 0
-Decides true A = A
-Decides false A = A → ⊥
 
 -- ---- what is read
 
--- a table, and the strings and kept flags of a pair's natives
-pub record Readable (q : ℕ) (t strings : List ℕ) (kept : List Bool) : Type 0 where
-  pub table_long : length t ≡ table_length q
-  pub held : Held q strings
-  pub flagged : kept ≡ flags (at strings)
-
--- the rotations are packed in front of rs, m of them
-abbrev pub PackedIn : ℕ → (ℕ → ℕ) → List ℕ → ℕ → Type 0
-PackedIn q f rs m = (ns : List ℕ) × Packed q f rs ns m natives
-
--- rs has strings, of which m count
-pub record Packs (q : ℕ) (rs : List ℕ) (m : ℕ) : Type 0 where
-  pub few : m ≤ natives
-  pub small : (i : ℕ) → at rs i < 4 ^ q
+-- The first m of ns are rotations, none is missing, and the first m of rs are their strings, blanked. That none is missing names no place of
+-- it, so that there is one proof at most, as a ghost field wants it.
+pub record Follows (q : ℕ) (f : ℕ → ℕ) (rs ns : List ℕ) (m : ℕ) : Type 0 where
+  pub each : (i : ℕ) → i < m → Rotation q f (at ns i)
+  pub all : (n : ℕ) → Rotation q f n → ((i : ℕ) → i < m → at ns i ≡ n → ⊥) → ⊥
+  pub strings : (i : ℕ) → i < m → at rs i ≡ blank q (f (at ns i))
 
 -- ---- heights
 
@@ -45,18 +30,13 @@ height v = cond (eqb v 0) gap (depth v)
 -- ---- where rotations lead
 
 -- the first m of xs are p, conjugated with each of the first m of rs
-pub record Neighbours (q p : ℕ) (rs : List ℕ) (m : ℕ) (xs : List ℕ) : Type 0 where
-  pub long : length xs ≡ natives
-  pub each : (i : ℕ) → i < m → at xs i ≡ conj q p (at rs i)
+abbrev pub Neighbours : ℕ → ℕ → List ℕ → ℕ → List ℕ → Type 0
+Neighbours q p rs m xs = (i : ℕ) → i < m → at xs i ≡ conj q p (at rs i)
 
 -- w is an entry, and no more than the limit
 pub record Low (limit w : ℕ) : Type 0 where
   pub some : w ≡ 0 → ⊥
   pub low : w ≤ limit
-
--- none of the first m of xs has an entry up to the limit
-abbrev pub Still : List ℕ → List ℕ → ℕ → ℕ → Type 0
-Still t xs m limit = (i : ℕ) → i < m → Low limit (entry t (at xs i)) → ⊥
 
 -- no rotation leads from p two or more below h
 abbrev pub Calm : ℕ → (ℕ → ℕ) → (ℕ → ℕ) → ℕ → ℕ → Type 0
@@ -78,18 +58,11 @@ pub record Rooted (q : ℕ) (f e : ℕ → ℕ) (p : ℕ) : Type 0 where
 abbrev pub Right : (ℕ → ℕ) → (ℕ → ℕ) → ℕ → Type 0
 Right f e p = (n : ℕ) → KeptFor f p n → e p ≡ n + 1
 
--- p is a nonzero native string, and its value is not that
-pub record Wrong (f e : ℕ → ℕ) (p : ℕ) : Type 0 where
+-- native n is kept for the nonzero string p, whose value is not that
+pub record Wrong (f e : ℕ → ℕ) (n p : ℕ) : Type 0 where
+  pub keeps : KeptFor f p n
   pub some : p ≡ 0 → ⊥
-  pub native : ℕ
-  pub keeps : KeptFor f p native
-  pub value : e p ≡ native + 1 → ⊥
-
--- r is the lowest nonzero string with a wrong value that a native below k is kept for, or 4 ^ q where there is none
-pub record Ceiling (q : ℕ) (f e : ℕ → ℕ) (k r : ℕ) : Type 0 where
-  pub within : r ≤ 4 ^ q
-  pub right : (p n : ℕ) → n < k → KeptFor f p n → (p ≡ 0 → ⊥) → p < r → e p ≡ n + 1
-  pub wrong : r < 4 ^ q → Wrong f e r
+  pub value : e p ≡ n + 1 → ⊥
 
 -- ---- from both ends
 
@@ -111,11 +84,6 @@ pub record Least (M : ℕ → Type 0) (end r : ℕ) : Type 0 where
   pub found : r < end → M r
   pub clear : (p : ℕ) → p < r → M p → ⊥
 
--- p is x, and stands two or more above h
-pub record HighAt (e : ℕ → ℕ) (h x p : ℕ) : Type 0 where
-  pub is : x ≡ p
-  pub high : h + 2 ≤ height (e p)
-
 -- N holds of p by a number below k
 pub record By (N : ℕ → ℕ → Type 0) (k p : ℕ) : Type 0 where
   pub by : ℕ
@@ -124,14 +92,15 @@ pub record By (N : ℕ → ℕ → Type 0) (k p : ℕ) : Type 0 where
 
 -- p is one of the first m of xs, and stands two or more above h
 abbrev pub High : (ℕ → ℕ) → ℕ → List ℕ → ℕ → ℕ → Type 0
-High e h xs = By (λ (i : ℕ). HighAt e h (at xs i))
+High e h xs = By (λ (i p : ℕ). (at xs i ≡ p) × (h + 2 ≤ height (e p)))
 
 -- a rotation leads from x two or more up to p, and x is so low that such a string need not stand above top
 pub record Blames (q : ℕ) (f e : ℕ → ℕ) (top x p : ℕ) : Type 0 where
   pub low : height (e x) + 2 ≤ top
   pub native : ℕ
   pub rotation : Rotation q f native
-  pub here : HighAt e (height (e x)) (leads q f x native) p
+  pub is : leads q f x native ≡ p
+  pub high : height (e x) + 2 ≤ height (e p)
 
 -- one does so from a nonzero string below k
 abbrev pub Blamed : ℕ → (ℕ → ℕ) → (ℕ → ℕ) → ℕ → ℕ → ℕ → Type 0

@@ -1,5 +1,5 @@
 -- A number is written digit by digit, the last behind those of a tenth; a digit is a byte from 48 to 57. Assumes nothing.
-use mathlib.Core.Bool.{true, false, ◌&&◌, and-eq-true_iff}
+use mathlib.Core.Bool.{true, ◌&&◌, and-eq-true_iff}
 use mathlib.Core.List.{List, [], ◌∷◌, ◌++◌}
 use mathlib.Core.Path.{◌≡◌, refl, sym, ◌∙◌}
 use Prim.Native.Nat.pow
@@ -7,13 +7,13 @@ use Prim.Native.Nat.{ℕ, zero, suc, ◌+◌, ◌-◌, ◌*◌, ◌/◌, ◌%◌
 use native.Mathlib.Numerals.{add-one}
 use native.Mathlib.Omega.{arith}
 use lib.Dec.{leb}
-use lib.ListN.{length, drop, get_or, drop_of_length-le}
+use lib.ListN.{length, drop, get_or, length-append, drop_of_length-le}
 use lib.Seq.{drop-cons}
-use borrow.Author.Tests.{lt-ltb, le-ltb, leb-true, le-leb, lt-leb}
+use borrow.Author.Tests.{lt-ltb, le-ltb, leb-true}
 use Rattle.bicycle_common.specs.Bytes.{digit}
+use Rattle.text.specs.declared.Out.{Out}
 use Rattle.text.specs.Puts.{Put}
-use Rattle.text.specs.declared.NumberAnswer.TheVariants.{Is, NotOne}
-use Rattle.text.specs.Decimals.{digits_up_to, decimal, is_digit, all_digits, number_from, number_in, needless_zero, is_number, read_number}
+use Rattle.text.specs.Decimals.{digits_up_to, decimal, is_digit, all_digits, number_from}
 use Rattle.text.proofs.Puts.{then}
 
 -- ---- written
@@ -36,10 +36,19 @@ unfolding decimal digits_up_to
 decimal_more zero h = absurd (omega arith)
 decimal_more (suc n) h = simp (le-ltb (suc n) 10 h) (rw (digits_same n (suc n / 10) (suc n / 10) (omega arith) (omega arith)))
 
--- one digit more
-module _ {x y z : List ℕ} {place m r : ℕ} (n : ℕ) (h : 10 ≤ n) where
-  pub put_more : Put x place (decimal (n / 10)) m y → Put y m (digit (n % 10) ∷ []) r z → Put x place (decimal n) r z
-  put_more p q = rw (decimal_more n h) (then p q)
+pub one_length : (n : ℕ) → n < 10 → length (decimal n) ≡ 1
+one_length n h = rw (decimal_one n h)
+
+pub more_length : (n : ℕ) → 10 ≤ n → length (decimal n) ≡ length (decimal (n / 10)) + 1
+more_length n h = rw (decimal_more n h) (length-append (decimal (n / 10)) (digit (n % 10) ∷ []))
+
+-- the last digit alone
+pub put_one : {x y : Out} (n : ℕ) → n < 10 → Put x (digit (n % 10) ∷ []) y → Put x (decimal n) y
+put_one n h p = let e : n % 10 ≡ n = omega arith in rw (decimal_one n h) (rw e at p)
+
+-- and behind those of a tenth
+pub put_more : {x y z : Out} (n : ℕ) → 10 ≤ n → Put x (decimal (n / 10)) y → Put y (digit (n % 10) ∷ []) z → Put x (decimal n) z
+put_more n h p q = rw (decimal_more n h) (then p q)
 
 -- ---- read
 
@@ -55,21 +64,8 @@ digit_between b e =
 
 -- from place i on
 module _ (s : List ℕ) (i : ℕ) where
-  pub all_none : length s ≤ i → all_digits (drop i s) ≡ true
-  unfolding all_digits
-  all_none h = rw (drop_of_length-le s h)
-
   module _ (h : i < length s) where
-    pub all_step : is_digit (get_or s i 0) ≡ true → all_digits (drop i s) ≡ all_digits (drop (i + 1) s)
-    unfolding all_digits
-    all_step e = rw (add-one, drop-cons s i 0 h, e)
-
-    pub all_stop : is_digit (get_or s i 0) ≡ false → all_digits (drop i s) ≡ false
-    unfolding all_digits
-    all_stop e = rw (drop-cons s i 0 h, e)
-
     pub all_next : all_digits (drop i s) ≡ true → Digit (get_or s i 0) × (all_digits (drop (i + 1) s) ≡ true)
-    unfolding all_digits
     all_next a =
         let e : (is_digit (get_or s i 0) && all_digits (drop (suc i) s)) ≡ true = rw (drop-cons s i 0 h) at a in
         let t = (and-eq-true_iff (is_digit (get_or s i 0)) (all_digits (drop (suc i) s))).0 e in
@@ -85,7 +81,6 @@ module _ (s : List ℕ) (i : ℕ) where
 
 -- v is what the digits before place i of s stand for, the others are to come
 pub record SoFar (s : List ℕ) (i v : ℕ) : Type 0 where
-  pub inside : i ≤ length s
   pub digits : all_digits (drop i s) ≡ true
   pub number : number_from v (drop i s) ≡ number_from 0 s
   pub small : v < 10 ^ i
@@ -97,7 +92,6 @@ pub so_far_next : (s : List ℕ) (i v : ℕ) → SoFar s i v → i < length s �
 so_far_next s i v r h =
     let n = all_next s i h r.digits in
     record {
-      inside = omega arith;
       digits = n.1;
       number = sym (number_step s i h v) ∙ r.number;
       small = small_next i v (get_or s i 0 - 48) r.small (omega (arith, n.0.high));
@@ -109,29 +103,3 @@ small_before zero v h k = omega arith
 small_before (suc zero) v h k = omega arith
 small_before (suc (suc zero)) v h k = omega arith
 small_before (suc (suc (suc i))) v h k = absurd (omega arith)
-
--- ---- what is no number, test by test, and what is one
-
-module _ (s : List ℕ) where
-  pub none_short : length s < 1 → NotOne ≡ read_number s
-  unfolding is_number
-  none_short h = simp (lt-leb 1 (length s) h)
-
-  module _ (a : 1 ≤ length s) where
-    pub none_long : 3 < length s → NotOne ≡ read_number s
-    unfolding is_number
-    none_long h = simp (le-leb 1 (length s) a, lt-leb (length s) 3 h)
-
-    module _ (b : length s ≤ 3) where
-      pub none_zero : needless_zero s ≡ true → NotOne ≡ read_number s
-      unfolding is_number
-      none_zero e = rw (le-leb 1 (length s) a, le-leb (length s) 3 b, e)
-
-      module _ (z : needless_zero s ≡ false) where
-        pub none_other : all_digits s ≡ false → NotOne ≡ read_number s
-        unfolding is_number
-        none_other e = rw (le-leb 1 (length s) a, le-leb (length s) 3 b, z, e)
-
-        pub is_number_law : all_digits s ≡ true → Is (number_in s) ≡ read_number s
-        unfolding is_number
-        is_number_law e = rw (le-leb 1 (length s) a, le-leb (length s) 3 b, z, e)

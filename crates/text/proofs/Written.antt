@@ -51,7 +51,6 @@ decimal_length =
 
 -- one digit more
 digits_more : (s : List ℕ) (b : ℕ) → all_digits s ≡ true → is_digit b ≡ true → all_digits (s ++ b ∷ []) ≡ true
-unfolding all_digits
 digits_more [] b e h = rw h
 digits_more (a ∷ s) b e h =
     let t = (and-eq-true_iff (is_digit a) (all_digits s)).0 e in
@@ -63,7 +62,7 @@ digit_is d h = rw (le-leb 48 (48 + d) (omega arith), le-leb (48 + d) 57 (omega a
 pub decimal_digits : (n : ℕ) → all_digits (decimal n) ≡ true
 decimal_digits =
     by_digits (λ (n : ℕ). all_digits (decimal n) ≡ true)
-    (λ n h. rw (decimal_one n h) (digits_more [] (digit n) (unfold all_digits in refl) (digit_is n h)))
+    (λ n h. rw (decimal_one n h) (digits_more [] (digit n) refl (digit_is n h)))
     (λ n h p. rw (decimal_more n h) (digits_more (decimal (n / 10)) (digit (n % 10)) p (digit_is (n % 10) (omega arith))))
 
 number_more : (v : ℕ) (s : List ℕ) (b : ℕ) → number_from v (s ++ b ∷ []) ≡ 10 * number_from v s + (b - 48)

@@ -1,9 +1,8 @@
 -- Decimal numbers as text, written and read. Assumes nothing.
-use Rattle.std.specs.Prelude.{Bool, true, not, cond, ◌&&◌, List, [], ◌∷◌, ◌++◌, ℕ, zero, suc, ◌+◌, ◌-◌, ◌*◌, ◌/◌, ◌%◌, eqb, leb, ltb, length, get_or}
+use Rattle.std.specs.Prelude.{Bool, not, cond, ◌&&◌, List, [], ◌∷◌, ◌++◌, ℕ, zero, suc, ◌+◌, ◌-◌, ◌*◌, ◌/◌, ◌%◌, eqb, leb, ltb, length, get_or, Option, Some, None}
+use Rattle.std.specs.List.{list_all}
 use Prim.Native.Char.{code}
 use Rattle.bicycle_common.specs.Bytes.{digit}
-use Rattle.text.specs.declared.NumberAnswer.{NumberAnswer}
-use Rattle.text.specs.declared.NumberAnswer.TheVariants.{Is, NotOne}
 
 -- ---- written
 
@@ -21,9 +20,8 @@ decimal n = digits_up_to n n
 abbrev pub is_digit : ℕ → Bool
 is_digit b = leb (code "0") b && leb b (code "9")
 
-unfoldable pub all_digits : List ℕ → Bool
-all_digits [] = true
-all_digits (b ∷ s) = is_digit b && all_digits s
+abbrev pub all_digits : List ℕ → Bool
+all_digits s = list_all is_digit s
 
 -- the number that digits stand for, behind digits that stand for v
 unfoldable pub number_from : ℕ → List ℕ → ℕ
@@ -41,5 +39,5 @@ needless_zero s = ltb 1 (length s) && eqb (get_or s 0 0) (code "0")
 unfoldable pub is_number : List ℕ → Bool
 is_number s = leb 1 (length s) && leb (length s) 3 && not (needless_zero s) && all_digits s
 
-abbrev pub read_number : List ℕ → NumberAnswer
-read_number s = cond (is_number s) (Is (number_in s)) NotOne
+abbrev pub read_number : List ℕ → Option ℕ
+read_number s = cond (is_number s) (Some (number_in s)) None

@@ -1,12 +1,8 @@
 -- What a caller is to get of a text: the value, or a refusal. Assumes nothing.
+use Rattle.std.specs.Prelude.{Result, Ok, Err}
 use Rattle.bicycle_common.specs.declared.Refusal.{Refusal}
 
--- what is read is good, or bad with a refusal
-pub data Read (A : Type 0) : Type 0 where
-  good : A → Read A
-  bad : Refusal → Read A
-
--- one thing is read after another: the first bad one decides
-abbrev pub on : {A B : Type 0} → Read A → (A → Read B) → Read B
-on (good a) next = next a
-on (bad r) next = bad r
+-- one thing is read after another: the first refusal decides
+abbrev pub on : {A B : Type 0} → Result A Refusal → (A → Result B Refusal) → Result B Refusal
+on (Ok a) next = next a
+on (Err r) next = Err r

@@ -1,96 +1,112 @@
-// Text in lent buffers: bytes and decimal numbers put at a place, and numbers read.
+// Text in lent buffers: bytes, decimal numbers and whatever has a text put there, and numbers read.
 //
-// Added: the original prints with the formatting of its language. A call that ends in `_unchecked` is an inner one between
-// our crates. It puts text at a place of a buffer as far as there is room, and answers the next place; so the same calls
-// on an empty buffer tell how long a text is.
+// Added: the original prints with the formatting of its language, whose contracts here say what was written only where each
+// write was Ok, and never that it is. A call that ends in `_unchecked` is an inner one between our crates.
 #![tactic(auto)]
 
-ghost use Rattle.std.specs.Prelude.{◌≡◌, true, [], ◌∷◌, ◌+◌, ◌<◌, ◌≤◌, ◌^◌, length};
-ghost use Rattle.bicycle_common.specs.Bytes.{digit};
+ghost use Rattle.std.specs.Prelude.{◌≡◌, true, List, [], ◌∷◌, ℕ, ◌+◌, ◌<◌, ◌≤◌, ◌^◌, length};
 ghost use Rattle.text.specs.Puts.{Put};
+ghost use Rattle.text.specs.Fronts.{Written};
 ghost use Rattle.text.specs.Decimals.{decimal, is_digit, all_digits, number_in, needless_zero, read_number};
 
 use bicycle_common::Refusal;
 
-// The length of a text that was written, or the refusal.
-#[derive(Clone, Copy)]
-pub enum WriteAnswer {
-    Is(usize),
-    Refused(Refusal),
-}
-
-// A number, or that the text is none.
-#[derive(Clone, Copy)]
-pub enum NumberAnswer {
-    Is(u16),
-    NotOne,
-}
-
 // ---- written
 
-pub fn put_byte_unchecked(out: &mut [u8], at: usize, b: u8) -> usize
-    requires { at < 2 ^ 32 }
-    ensures { Put out.old at (b ∷ []) result out.new }
-{
-    if at < out.len() {
-        out[at] = b;
-        return at + 1;
-    }
-    at + 1
+// A lent buffer, and the place of the next byte. Bytes past the end are counted and not stored, so that the same calls on an
+// empty buffer tell how long a text is.
+#[derive(Drop)]
+pub struct Out<'a> {
+    pub bytes: &'a mut [u8],
+    pub at: usize,
 }
 
-pub fn put_bytes_unchecked(out: &mut [u8], at: usize, s: &[u8]) -> usize
-    requires { at + length s.now ≤ 2 ^ 32 }
-    ensures { Put out.old at s.now result out.new }
-{
-    let mut to = at;
-    let mut i: usize = 0;
-    while i < s.len() {
-        to = put_byte_unchecked(out, to, s[i]);
-        i += 1;
+impl Out<'_> {
+    pub fn put_byte_unchecked(&mut self, b: u8)
+        requires { self.old.at + 1 < 2 ^ 64 }
+        ensures { Put self.old (b ∷ []) self.new }
+    {
+        // By number: with `get_mut` the search does not close the proof
+        if self.at < self.bytes.len() {
+            self.bytes[self.at] = b;
+        }
+        self.at += 1;
     }
-    to
+
+    pub fn put_bytes_unchecked(&mut self, s: &[u8])
+        requires { self.old.at + length s.now < 2 ^ 64 }
+        ensures { Put self.old s.now self.new }
+    {
+        for b in s {
+            self.put_byte_unchecked(*b);
+        }
+    }
+
+    // The digits of a number, first the highest.
+    pub fn put_decimal_unchecked(&mut self, n: u16)
+        requires { self.old.at + length (decimal n) < 2 ^ 64 }
+        ensures { Put self.old (decimal n) self.new }
+    {
+        if 10 <= n {
+            self.put_decimal_unchecked(n / 10);
+        }
+        // `as`: no `From` narrows, and that nothing is lost is proved
+        self.put_byte_unchecked(b'0' + (n % 10) as u8);
+    }
 }
 
-fn put_digit(out: &mut [u8], at: usize, n: u16) -> usize
-    requires { (n < 10) × (at < 2 ^ 32) }
-    ensures { Put out.old at (digit n ∷ []) result out.new }
-{
-    put_byte_unchecked(out, at, b'0' + n as u8)
+// What has a text.
+pub trait Text {
+    ghost text: { Self → List ℕ };
+
+    fn put_unchecked(&self, out: &mut Out)
+        requires { out.old.at + length (text self.now) < 2 ^ 64 }
+        ensures { Put out.old (text self.now) out.new };
 }
 
-fn put_below_100(out: &mut [u8], at: usize, n: u16) -> usize
-    requires { (n < 100) × (at + 1 < 2 ^ 32) }
-    ensures { Put out.old at (decimal n) result out.new × (result ≤ at + 2) }
-{
-    if n < 10 {
-        return put_digit(out, at, n);
+// Bytes are their own text.
+impl<const N: usize> Text for [u8; N] {
+    ghost text = { λ s. s };
+
+    fn put_unchecked(&self, out: &mut Out) {
+        out.put_bytes_unchecked(self);
     }
-    let next = put_digit(out, at, n / 10);
-    put_digit(out, next, n % 10)
 }
 
-fn put_below_1000(out: &mut [u8], at: usize, n: u16) -> usize
-    requires { (n < 1000) × (at + 2 < 2 ^ 32) }
-    ensures { Put out.old at (decimal n) result out.new × (result ≤ at + 3) }
-{
-    if n < 100 {
-        return put_below_100(out, at, n);
+impl Text for u16 {
+    ghost text = { decimal };
+
+    fn put_unchecked(&self, out: &mut Out) {
+        out.put_decimal_unchecked(*self);
     }
-    let next = put_below_100(out, at, n / 10);
-    put_digit(out, next, n % 10)
 }
 
-// The digits of a number of at most four.
-pub fn put_decimal_unchecked(out: &mut [u8], at: usize, n: u16) -> usize
-    requires { (n < 10000) × (at + 3 < 2 ^ 32) }
-    ensures { Put out.old at (decimal n) result out.new × (result ≤ at + 4) }
+// How many bytes the text has.
+fn length_of<T: Text>(t: &T) -> usize
+    requires { length (T.text t.now) < 2 ^ 64 }
+    ensures { result ≡ length (T.text t.now) }
 {
-    if n < 1000 {
-        return put_below_1000(out, at, n);
+    let mut none = [0u8; 0];
+    let mut out = Out {
+        bytes: &mut none,
+        at: 0,
+    };
+    t.put_unchecked(&mut out);
+    out.at
+}
+
+// The text in front of the buffer, or 9 and nothing written where there is no room for all of it.
+pub fn write_unchecked<T: Text>(t: &T, out: &mut [u8]) -> Result<usize, Refusal>
+    requires { length (T.text t.now) < 2 ^ 64 }
+    ensures { Written (Ok (T.text t.now)) out.old result out.new }
+{
+    let needed = length_of(t);
+    if out.len() < needed {
+        return Err(Refusal::Room(needed));
     }
-    let next = put_below_1000(out, at, n / 10);
-    put_digit(out, next, n % 10)
+    let mut front = Out { bytes: out, at: 0 };
+    t.put_unchecked(&mut front);
+    Ok(front.at)
 }
 
 // ---- read
@@ -98,32 +114,19 @@ pub fn put_decimal_unchecked(out: &mut [u8], at: usize, n: u16) -> usize
 pub fn is_digit(b: u8) -> bool
     ensures { result ≡ is_digit b }
 {
-    if b < b'0' {
-        return false;
-    }
-    b <= b'9'
+    b.is_ascii_digit()
 }
 
 fn has_needless_zero(s: &[u8]) -> bool
     ensures { result ≡ needless_zero s.now }
 {
-    if 1 < s.len() {
-        return s[0] == b'0';
-    }
-    false
+    matches!(s, [b'0', _, ..])
 }
 
 pub fn all_digits(s: &[u8]) -> bool
     ensures { result ≡ all_digits s.now }
 {
-    let mut i: usize = 0;
-    while i < s.len() {
-        if !is_digit(s[i]) {
-            return false;
-        }
-        i += 1;
-    }
-    true
+    s.iter().all(|b| is_digit(*b))
 }
 
 // The number of at most three digits.
@@ -131,30 +134,20 @@ fn number_in(s: &[u8]) -> u16
     requires { (length s.now ≤ 3) × (all_digits s.now ≡ true) }
     ensures { result ≡ number_in s.now }
 {
-    let mut v: u16 = 0;
-    let mut i: usize = 0;
-    while i < s.len() {
-        v = 10 * v + (s[i] - b'0') as u16;
-        i += 1;
+    let mut v = 0;
+    for b in s {
+        v = 10 * v + u16::from(*b - b'0');
     }
     v
 }
 
 // The number that the whole of s stands for: one to three digits, and no needless zero.
-pub fn read_number(s: &[u8]) -> NumberAnswer
+#[tactic(auto, unfolding(crate::specs::Decimals::is_number))]
+pub fn read_number(s: &[u8]) -> Option<u16>
     ensures { result ≡ read_number s.now }
 {
-    if s.len() < 1 {
-        return NumberAnswer::NotOne;
+    if matches!(s.len(), 1..=3) && !has_needless_zero(s) && all_digits(s) {
+        return Some(number_in(s));
     }
-    if 3 < s.len() {
-        return NumberAnswer::NotOne;
-    }
-    if has_needless_zero(s) {
-        return NumberAnswer::NotOne;
-    }
-    if !all_digits(s) {
-        return NumberAnswer::NotOne;
-    }
-    NumberAnswer::Is(number_in(s))
+    None
 }

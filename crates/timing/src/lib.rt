@@ -9,13 +9,15 @@ ghost use Rattle.measurement.specs.Measures.{pair_string};
 ghost use Rattle.natives.specs.Kept.{kept};
 ghost use Rattle.natives.specs.Arrays.{strings};
 
+use measurement::Pair;
+
 // The strings of all natives of the pair.
 #[unsafe(no_mangle)]
 pub extern "C" fn timing_strings_unchecked(mx: &[u8], my: &[u8], out: &mut [u32])
     requires { (is_bytes side mx.now ≡ true) × (is_bytes side my.now ≡ true) × (length out.old ≡ natives) }
     ensures { out.new ≡ strings (of_bytes side mx.now) (of_bytes side my.now) }
 {
-    natives::strings_unchecked(mx, my, out)
+    natives::strings_unchecked(Pair { mx, my }, out)
 }
 
 // A native's string, and whether the native is kept.
@@ -34,11 +36,9 @@ pub extern "C" fn timing_natives_unchecked(mx: &[u8], my: &[u8], n: usize) -> On
     ensures string_value { result.string ≡ pair_string side mx.now my.now n }
     ensures kept_value { result.kept ≡ kept (pair_string side mx.now my.now) n }
 {
-    let all = natives::natives_unchecked(mx, my);
-    let strings = all.strings;
-    let flags = all.kept;
+    let all = natives::natives_unchecked(Pair { mx, my });
     OneNative {
-        string: strings[n],
-        kept: flags[n],
+        string: all.strings[n],
+        kept: all.kept[n],
     }
 }

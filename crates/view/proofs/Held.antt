@@ -1,7 +1,7 @@
 -- What the functions over the view take and give: a view, the slice that it holds, a string, a number, a truth; and that what a view owns is what its slice owns.
 -- The laws of `Asked.antt` are over these: Rattle proves the functions of this crate by itself.
 -- Assumes nothing.
-use mathlib.Core.Path.{◌≡◌}
+use mathlib.Core.Path.{◌≡◌, refl}
 use mathlib.Core.List.{[], ◌∷◌}
 use lib.Dec.{T as Holds}
 use lib.ListN.{length}
@@ -14,19 +14,23 @@ use types.Logic.{Logic, sem}
 use types.Kit.{‵, given, ◌$◌, ◌∵◌, !, qed, move, drop, use1, learn, fsplit, done}
 use denote.RattleType.{RattleType}
 use denote.Laws.{Is}
-use denote.Builtin.{u8, SliceRefOf}
+use denote.Builtin.{u8, u32, bool, SliceRefOf}
+use denote.Param.{layout}
+use denote.Param.Laws.{Laws, of_field}
+use denote.Param.Shared.{copy_shared}
+use denote.Struct.Field.{u32-field, bool-field}
+use denote.Struct.Laws.{u32-laws, u32-copy, bool-laws, bool-copy}
 use denote.Ref.{NamedLft}
 use denote.Signature.{Slot, plain, named_lft}
 use denote.Slice.{slice_val}
-use denote.Enum.Laws as EL
 use denote.Struct.Laws as LL
 use denote.Struct.Rest.{all_own, own_open}
-use Rattle.pauli_string.specs.contracts.BoolAnswer as B
-use Rattle.pauli_string.proofs.BoolAnswer.TheLaws as B'
+use Rattle.std.specs.contracts.result.Result.{the_row as ResultOf}
+use Rattle.std.proofs.result.Result.TheLaws as R'
+use Rattle.bicycle_common.specs.contracts.Refusal as F
+use Rattle.bicycle_common.proofs.Refusal.TheLaws as F'
 use Rattle.pauli_string.specs.contracts.PauliString as P
 use Rattle.pauli_string.proofs.PauliString.TheLaws as P'
-use Rattle.table.specs.contracts.NumberAnswer as N
-use Rattle.table.proofs.NumberAnswer.TheLaws as N'
 use Rattle.view.specs.declared.MeasurementTable.{MeasurementTable}
 use Rattle.view.specs.contracts.MeasurementTable as T
 use Rattle.view.proofs.MeasurementTable.TheLaws as T'
@@ -38,11 +42,17 @@ pub record Kind : Type 2 where
   pub mir : Ty
   pub typed : {M : Type 1} {𝓤 : Ura M} (𝓛 : Logic 𝓤) (x : row.Denot) (u : Val) → Is row x (u ∷ []) → Holds (has_ty mir u) × WT u
 
+-- a value of a type, or a refusal
+abbrev answer : (row : RattleType) → Laws row → Kind
+answer row laws =
+    let r : Laws (ResultOf row F.the_row) = R'.the_row_laws row F.the_row laws F'.the_row_laws in
+    record { row = ResultOf row F.the_row; mir = layout (ResultOf row F.the_row); typed = λ 𝓛 x u is. ((r.lawful 𝓛).typed x (u ∷ []) is).0 }
+
 abbrev pub number : Kind
-number = record { row = N.the_row; mir = N'.mir; typed = λ 𝓛 x u is. ((EL.lawful N.the_type N'.the_laws 𝓛 tt).typed x (u ∷ []) is).0 }
+number = answer u32 (of_field u32-field u32-laws refl (copy_shared u32-field u32-copy))
 
 abbrev pub truth : Kind
-truth = record { row = B.the_row; mir = B'.mir; typed = λ 𝓛 x u is. ((EL.lawful B.the_type B'.the_laws 𝓛 tt).typed x (u ∷ []) is).0 }
+truth = answer bool (of_field bool-field bool-laws refl (copy_shared bool-field bool-copy))
 
 abbrev pub string : Kind
 string = record { row = P.the_row; mir = P'.mir; typed = λ 𝓛 x u is. ((LL.lawful P.the_type P'.the_laws 𝓛).typed x (u ∷ []) is).0 }

@@ -13,8 +13,8 @@ ghost use Rattle.pauli_string.specs.Strings.{qubits};
 ghost use Rattle.table.specs.Answers.{is_empty, len_of, value_at, has_entry_at, depth_at, cost_at};
 ghost use Rattle.view.specs.Answers.{entry_at};
 
-use pauli_string::{BoolAnswer, PauliString};
-use table::NumberAnswer;
+use bicycle_common::Refusal;
+use pauli_string::PauliString;
 
 // The view. It is Copy: a read takes it by value.
 #[derive(Clone, Copy)]
@@ -22,6 +22,8 @@ pub struct MeasurementTable<'a> {
     table: &'a [u8],
 }
 
+// Its calls are those of `table`, by their names: README names both, as the original has the type.
+// Its calls are those of `table`, by their names: README names both, as the original has the type.
 impl<'a> MeasurementTable<'a> {
     pub fn new(table: &'a [u8]) -> MeasurementTable<'a>
         ensures { result.table ≡ table.entry }
@@ -29,37 +31,37 @@ impl<'a> MeasurementTable<'a> {
         MeasurementTable { table }
     }
 
-    pub fn is_empty(self) -> BoolAnswer
+    pub fn is_empty(self) -> Result<bool, Refusal>
         ensures { result ≡ is_empty qubits self.entry.table.now }
     {
         table::is_empty(self.table)
     }
 
-    pub fn len(self) -> NumberAnswer
+    pub fn len(self) -> Result<u32, Refusal>
         ensures { result ≡ len_of qubits self.entry.table.now }
     {
         table::len(self.table)
     }
 
-    pub fn value(self, p: PauliString) -> NumberAnswer
+    pub fn value(self, p: PauliString) -> Result<u32, Refusal>
         ensures { result ≡ value_at qubits self.entry.table.now p.0 }
     {
         table::value(self.table, p)
     }
 
-    pub fn has_entry(self, p: PauliString) -> BoolAnswer
+    pub fn has_entry(self, p: PauliString) -> Result<bool, Refusal>
         ensures { result ≡ has_entry_at qubits self.entry.table.now p.0 }
     {
         table::has_entry(self.table, p)
     }
 
-    pub fn depth(self, p: PauliString) -> NumberAnswer
+    pub fn depth(self, p: PauliString) -> Result<u32, Refusal>
         ensures { result ≡ depth_at qubits self.entry.table.now p.0 }
     {
         table::depth(self.table, p)
     }
 
-    pub fn cost(self, p: PauliString) -> NumberAnswer
+    pub fn cost(self, p: PauliString) -> Result<u32, Refusal>
         ensures { result ≡ cost_at qubits self.entry.table.now p.0 }
     {
         table::cost(self.table, p)
@@ -69,13 +71,13 @@ impl<'a> MeasurementTable<'a> {
 // All that is told of a string.
 #[derive(Clone, Copy)]
 pub struct EntryAnswer {
-    pub value: NumberAnswer,
-    pub has_entry: BoolAnswer,
-    pub depth: NumberAnswer,
-    pub cost: NumberAnswer,
+    pub value: Result<u32, Refusal>,
+    pub has_entry: Result<bool, Refusal>,
+    pub depth: Result<u32, Refusal>,
+    pub cost: Result<u32, Refusal>,
 }
 
-// Asks a view of the table all that it tells of string p. Its parameters are plain, so that a caller needs no walk.
+// Asks a view of the table all that it tells of string p.
 pub fn entry(table: &[u8], p: PauliString) -> EntryAnswer
     ensures { result ≡ entry_at qubits table.now p.0 }
 {

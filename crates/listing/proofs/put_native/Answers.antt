@@ -1,7 +1,9 @@
--- `listing::put_native` meets its contract: the native's line, and the name of the next behind it. Assumes nothing.
-use native.Mathlib.Omega.{arith}
+-- `listing::put_native` meets its contract: the expansion's line stands behind the native's. Assumes nothing.
 use Rattle.text.proofs.Puts.{then}
 use Rattle.listing.proofs.put_native.Goals as goal
 
-pub returns : goal.returns
-returns c = (then c.put_number_line-next.ensures.0 c.put_bytes_unchecked.ensures, omega (arith, c.put_number_line-next.ensures.1, c.put_bytes_unchecked.ensures.moves))
+pub returns-in-Ok : goal.returns-in-Ok
+returns-in-Ok g c = rw c.in-Ok.is (then c.put_line.ensures c.put_line-in-Ok.ensures)
+
+pub returns-in-Err : goal.returns-in-Err
+returns-in-Err g c = rw c.in-Err.is (then c.put_line.ensures c.put_line-in-Err.ensures)

@@ -1,12 +1,9 @@
--- `measurement::is_matrix` meets its contract: bytes of the right length are a matrix where none is over 1. Assumes nothing.
-use mathlib.Core.Path.{sym, ap, ◌∙◌}
+-- `measurement::is_matrix` meets its contract: bytes of the right length are a matrix where their digits together are at most 1. Assumes nothing.
+use mathlib.Core.Path.{ap, ◌∙◌}
 use Prim.Native.Nat.{ℕ}
-use lib.Dec.{eqb}
-use Rattle.measurement.proofs.Counted.{bytes_short, bytes_counted}
+use lib.Dec.{leb}
+use Rattle.measurement.proofs.Together.{bytes_joined}
 use Rattle.measurement.proofs.is_matrix.Goals as goal
 
-pub returns-then-m-ne36 : goal.returns-then-m-ne36
-returns-then-m-ne36 c = sym (bytes_short c.args.m.now c.if-m-ne36.true)
-
-pub returns : goal.returns
-returns c = ap (λ (n : ℕ). eqb n 0) c.overs.ensures ∙ bytes_counted c.args.m.now c.if-m-ne36.false
+pub returns-then-m-eq36 : goal.returns-then-m-eq36
+returns-then-m-eq36 c = ap (λ (n : ℕ). leb n 1) c.joined.ensures ∙ bytes_joined c.args.m.now c.if-m-eq36.true

@@ -2,47 +2,47 @@
 -- they show are the natives'. Assumes nothing.
 use mathlib.Core.Path.{◌∙◌}
 use Rattle.measurement.specs.Matrices.{of_bytes}
-use Rattle.measurement.proofs.Strings.{bytes_good}
 use Rattle.natives.specs.Arrays.{at}
-use Rattle.natives.proofs.Grids.{WordsOf, grid_native}
-use Rattle.natives.proofs.Cells.{grid_lt, cells_spread, shown_grid}
+use Rattle.natives.proofs.Grids.{WordsOf, bytes_rows, bytes_columns, rows_are, columns_are, grid_native}
+use Rattle.natives.proofs.Shown.{grid_lt, cells_spread, shown_grid}
 use Rattle.natives.proofs.cells_unchecked.Goals as goal
 
-pub rows_of-rx-requires : goal.rows_of-rx-requires
-rows_of-rx-requires c = bytes_good 6 c.args.mx.now c.requires.0
+pub of-rx-requires : goal.of-rx-requires
+of-rx-requires c = bytes_rows c.args.pair.mx.now c.args.pair.x_matrix
 
-pub rows_of-ry-requires : goal.rows_of-ry-requires
-rows_of-ry-requires c = bytes_good 6 c.args.my.now c.requires.1
+pub of-ry-requires : goal.of-ry-requires
+of-ry-requires c = bytes_rows c.args.pair.my.now c.args.pair.y_matrix
 
-pub columns_of-cx-requires : goal.columns_of-cx-requires
-columns_of-cx-requires c = bytes_good 6 c.args.mx.now c.requires.0
+pub of-cx-requires : goal.of-cx-requires
+of-cx-requires c = bytes_columns c.args.pair.mx.now c.args.pair.x_matrix
 
-pub columns_of-cy-requires : goal.columns_of-cy-requires
-columns_of-cy-requires c = bytes_good 6 c.args.my.now c.requires.1
+pub of-cy-requires : goal.of-cy-requires
+of-cy-requires c = bytes_columns c.args.pair.my.now c.args.pair.y_matrix
 
 pub marked-requires : goal.marked-requires
 marked-requires c =
-    let rs = c.grid-rs in
-    let cs = c.grid-cs in
-    let l = c.lines in
-    (l.ensures.0, λ a h. rw (l.ensures.1 a h) (grid_lt cs.result rs.result cs.ensures.1 rs.ensures.1 a h))
+    let cs = c.of-cs.result in
+    let rs = c.of-rs.result in
+    λ a h. rw (c.lines.ensures.1 a h) (grid_lt cs.rows rs.rows cs.small rs.small a h)
+
+pub invariant_of-result : goal.invariant_of-result
+invariant_of-result c =
+    let cs = c.of-cs.result in
+    let rs = c.of-rs.result in
+    record { spread = cells_spread cs.rows rs.rows cs.small rs.small (at c.lines.result) c.lines.ensures.1 c.marked.result c.marked.ensures }
 
 pub returns : goal.returns
 returns c =
-    let g = c.args in
-    let rx = c.rows_of-rx in
-    let ry = c.rows_of-ry in
-    let cx = c.columns_of-cx in
-    let cy = c.columns_of-cy in
-    let rs = c.grid-rs in
-    let cs = c.grid-cs in
-    let l = c.lines in
-    let m = c.marked in
-    let a = of_bytes 6 g.mx.now in
-    let b = of_bytes 6 g.my.now in
-    let w : WordsOf a b rx.result ry.result cx.result cy.result =
-    record { rows_x = rx.ensures; rows_y = ry.ensures; columns_x = cx.ensures; columns_y = cy.ensures } in (
-      cells_spread cs.result rs.result cs.ensures.1 rs.ensures.1 (at l.result) l.ensures.1 m.result m.ensures,
-      λ n h. shown_grid cs.result rs.result cs.ensures.1 rs.ensures.1 (at l.result) l.ensures.1 m.result m.ensures n h
-          ∙ grid_native a b rx.result ry.result cx.result cy.result w cs.result rs.result cs.ensures.0 rs.ensures.0 n h,
-    )
+    let p = c.args.pair in
+    let cs = c.of-cs in
+    let rs = c.of-rs in
+    let a = of_bytes 6 p.mx.now in
+    let b = of_bytes 6 p.my.now in
+    let w : WordsOf a b c.of-rx.result.words c.of-ry.result.words c.of-cx.result.words c.of-cy.result.words = record {
+      rows_x = (c.of-rx.result.small, rows_are p.mx.now c.of-rx.result.words (bytes_rows p.mx.now p.x_matrix) c.of-rx.ensures);
+      rows_y = (c.of-ry.result.small, rows_are p.my.now c.of-ry.result.words (bytes_rows p.my.now p.y_matrix) c.of-ry.ensures);
+      columns_x = (c.of-cx.result.small, columns_are p.mx.now c.of-cx.result.words (bytes_columns p.mx.now p.x_matrix) c.of-cx.ensures);
+      columns_y = (c.of-cy.result.small, columns_are p.my.now c.of-cy.result.words (bytes_columns p.my.now p.y_matrix) c.of-cy.ensures);
+    } in
+    λ n h. shown_grid cs.result.rows rs.result.rows cs.result.small rs.result.small (at c.lines.result) c.lines.ensures.1 c.marked.result c.marked.ensures n h
+    ∙ grid_native a b _ _ _ _ w cs.result.rows rs.result.rows cs.ensures rs.ensures n h

@@ -11,13 +11,9 @@ use Rattle.natives.proofs.kept_flags_unchecked.Given as goal
 
 abbrev pub invariant-loop-n : goal.invariant-loop-n
 invariant-loop-n l =
-    (l.n ≤ 540)
-    × (length l.head ≡ 1021)
+    (length l.head ≡ 1021)
     × (length l.next ≡ 540)
     × (length l.out ≡ 540)
     × Linked (bucket l.s) l.next l.n
     × Heads (bucket l.s) l.head l.n
     × ((t : ℕ) → l.n ≤ t → t < 540 → get_or l.out t false ≡ kept (at l.s) t)
-
-abbrev pub decreases-loop-n : goal.decreases-loop-n
-decreases-loop-n l = l.n

@@ -6,6 +6,6 @@ use Rattle.natives.proofs.strings_unchecked.Goals as goal
 
 pub returns : goal.returns
 returns c =
-    let g = c.args in
+    let p = c.args.pair in
     let u = c.blocks-2.ensures in
-    listed_all (pair_string 6 g.mx.now g.my.now) 0 _ 540 u.0 (λ n h. u.1 n h ∙ c.cells_unchecked-cells.ensures.1 n h)
+    listed_all (pair_string 6 p.mx.now p.my.now) 0 _ 540 u.0 (λ n h. u.1 n h ∙ c.cells_unchecked.ensures n h)

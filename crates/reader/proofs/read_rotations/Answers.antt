@@ -1,61 +1,52 @@
 -- `reader::read_rotations` meets its contract: before each line those before it are read, and the first bad one decides. Assumes nothing.
 use mathlib.Core.Path.{sym, ap, ◌∙◌}
-use native.Mathlib.Omega.{arith}
-use lib.ListN.{drop}
-use Rattle.natives.proofs.Arrays.{strings_held}
+use Rattle.std.proofs.Common.{rules, of_calls}
+use Rattle.std.proofs.lemmas.Fn.{always_returns_same}
+use Rattle.std.proofs.iter.Serving.{serving}
 use Rattle.reader.specs.Lines.{lines}
-use Rattle.reader.specs.Answers.{plan_answer}
-use Rattle.reader.proofs.Lines.{line_more}
+use Rattle.reader.specs.Answers.{stated}
+use Rattle.natives.proofs.Shown.{shown_lt}
+use Rattle.reader.proofs.Lines.{cut}
 use Rattle.reader.proofs.Rotations.{plan_zero, plan_good, text_start, text_end, line_full, line_small, line_refused, line_taken}
 use Rattle.reader.proofs.read_rotations.Goals as goal
 
-pub string_of-m-requires : goal.string_of-m-requires
-string_of-m-requires c = (c.requires.start_in_bounds.1, (strings_held _ _ _ c.requires.strings_value).long)
-
-pub loop-at-init : goal.loop-at-init
-loop-at-init c =
-    (c.requires.start_in_bounds.0, rw c.string_of-m.ensures (text_start c.args.pair _ c.requires.strings_value c.args.base (lines (drop c.args.start c.args.input.now)) c.requires.start_in_bounds.1))
+pub loop-line-init : goal.loop-line-init
+loop-line-init c = (
+  grind serving,
+  search rules,
+  rw (c.string_of_unchecked-measures.ensures, c.into_iter-line-iterator.ensures.into_iter_gives, c.split_inclusive-line-items.ensures.rest)
+      (text_start c.args.pair _ c.requires.cells_of c.args.base (lines c.args.input.now) c.requires.base_below),
+)
 
 pub returns-then-count-eq256 : goal.returns-then-count-eq256
-returns-then-count-eq256 c =
-    c.no_plan.ensures
-    ∙ ap plan_answer
-    (sym (line_full c.args.pair _ c.requires.strings_value c.args.input.now c.loop-at.at c.loop-at.invariant.1 c.loop-at-test.true c.if-count-eq256.true))
+returns-then-count-eq256 c = ap stated (sym (line_full c.args.pair _ c.requires.cells_of _ c.loop-line.invariant.2 c.in-Some.ensures.steps.2 c.if-count-eq256.true))
 
-pub rotation_line-requires : goal.rotation_line-requires
-rotation_line-requires c = (strings_held _ _ _ c.requires.strings_value).long
+pub returns-in_err-n : goal.returns-in_err-n
+returns-in_err-n c =
+    let line = cut c.in-Some.ensures.steps (always_returns_same _ _ _ (λ a r f k. search (rules, of_calls))) in
+    let refused = line_refused c.args.pair _ c.requires.cells_of _ c.loop-line.invariant.2 c.in-Some.ensures.steps.2 c.if-count-eq256.false in
+    let e = ap stated (sym (refused _ (sym (rw line.0 at c.rotation_line.ensures) ∙ c.in_err-n.was))) in
+    search (rules, e)
 
-pub returns-in-Refused : goal.returns-in-Refused
-returns-in-Refused c =
-    c.no_plan-in-Refused.ensures
-    ∙ ap plan_answer
-    (sym (line_refused c.args.pair _ c.requires.strings_value c.args.input.now c.loop-at.at c.loop-at.invariant.1 c.loop-at-test.true c.line_end-end.ensures.0
-    c.rotation_line.ensures c.if-count-eq256.false _ c.in-Refused.is))
+pub string_of_unchecked-requires : goal.string_of_unchecked-requires
+string_of_unchecked-requires c =
+    let line = cut c.in-Some.ensures.steps (always_returns_same _ _ _ (λ a r f k. search (rules, of_calls))) in
+    line_small c.args.pair _ c.requires.cells_of _ c.loop-line.invariant.2 c.in-Some.ensures.steps.2 _ (sym (rw line.0 at c.rotation_line.ensures) ∙ c.in_ok-n.was)
 
-pub string_of-requires : goal.string_of-requires
-string_of-requires c =
-    let small = line_small c.args.pair _ c.requires.strings_value c.args.input.now c.loop-at.at c.loop-at.invariant.1 c.loop-at-test.true c.line_end-end.ensures.0 c.rotation_line.ensures in
-    (small _ c.in-Is.is, (strings_held _ _ _ c.requires.strings_value).long)
+pub rotate_unchecked-measures-requires : goal.rotate_unchecked-measures-requires
+rotate_unchecked-measures-requires c = (c.loop-line.invariant.2.string, rw c.string_of_unchecked.ensures (shown_lt _ _))
 
-pub rotate_unchecked-m-requires : goal.rotate_unchecked-m-requires
-rotate_unchecked-m-requires c =
-    (c.loop-at.invariant.1.string, rw c.string_of.ensures ((strings_held _ _ _ c.requires.strings_value).small _))
+pub loop-line-preserved : goal.loop-line-preserved
+loop-line-preserved c =
+    let line = cut c.in-Some.ensures.steps (always_returns_same _ _ _ (λ a r f k. search (rules, of_calls))) in
+    let taken = line_taken c.args.pair _ c.requires.cells_of _ c.loop-line.invariant.2 c.in-Some.ensures.steps.2 c.if-count-eq256.false in (
+      grind serving,
+      search rules,
+      rw (line.1, c.rotate_unchecked-measures.ensures, c.string_of_unchecked.ensures) (taken _ (sym (rw line.0 at c.rotation_line.ensures) ∙ c.in_ok-n.was)),
+    )
 
-pub loop-at-smaller : goal.loop-at-smaller
-loop-at-smaller c =
-    omega (arith, line_more c.args.input.now c.loop-at.at c.loop-at-test.true, c.line_end-end.ensures.0, c.line_end-end.ensures.1)
-
-pub loop-at-preserved : goal.loop-at-preserved
-loop-at-preserved c =
-    let taken = line_taken c.args.pair _ c.requires.strings_value c.args.input.now c.loop-at.at c.loop-at.invariant.1 c.loop-at-test.true c.line_end-end.ensures.0 c.rotation_line.ensures c.if-count-eq256.false in
-    (c.line_end-end.ensures.1, rw (c.rotate_unchecked-m.ensures, c.string_of.ensures) (taken _ c.in-Is.is))
-
-pub returns-then-m-eq0 : goal.returns-then-m-eq0
-returns-then-m-eq0 c =
-    let r = text_end c.args.pair _ c.requires.strings_value c.args.input.now c.loop-at.at c.loop-at.invariant.1 c.loop-at-test.false in
-    c.no_plan-then-m-eq0.ensures ∙ ap plan_answer (sym (plan_zero c.args.pair r c.if-m-eq0.true))
+pub returns-then-measures-eq0 : goal.returns-then-measures-eq0
+returns-then-measures-eq0 c = ap stated (sym (plan_zero c.args.pair (text_end c.args.pair _ c.requires.cells_of _ c.loop-line.invariant.2 c.in-None.ensures.steps.0) c.if-measures-eq0.true))
 
 pub returns : goal.returns
-returns c =
-    let r = text_end c.args.pair _ c.requires.strings_value c.args.input.now c.loop-at.at c.loop-at.invariant.1 c.loop-at-test.false in
-    plan_good c.args.pair r c.if-m-eq0.false
+returns c = plan_good c.args.pair (text_end c.args.pair _ c.requires.cells_of _ c.loop-line.invariant.2 c.in-None.ensures.steps.0) c.if-measures-eq0.false

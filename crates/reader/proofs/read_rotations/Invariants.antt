@@ -1,14 +1,12 @@
 -- `reader::read_rotations` meets its contract: before each line those before it are read, and the first bad one decides. Assumes nothing.
-use Prim.Native.Nat.{◌-◌, ◌≤◌}
-use lib.ListN.{length, drop}
+use Rattle.std.specs.Slice.Iter.{split_inclusive_rest}
 use Rattle.reader.specs.Lines.{lines}
 use Rattle.reader.specs.Plans.{strings_of}
 use Rattle.reader.proofs.Rotations.{Reading}
 use Rattle.reader.proofs.read_rotations.Given as goal
 
-abbrev pub invariant-loop-at : goal.invariant-loop-at
-invariant-loop-at l =
-    (l.at ≤ length l.input) × Reading (strings_of l.pair) l.base (lines (drop l.start l.input)) (lines (drop l.at l.input)) l.rotations l.count l.m.0
-
-abbrev pub decreases-loop-at : goal.decreases-loop-at
-decreases-loop-at l = length l.input - l.at
+abbrev pub invariant-loop-line : goal.invariant-loop-line
+invariant-loop-line l =
+    (goal.iterator-loop-line).can_next l.line-iterator ×
+    (goal.iterator-loop-line).is_finite l.line-iterator ×
+    Reading (strings_of l.pair) l.base (lines l.input) (lines (split_inclusive_rest l.line-iterator)) l.rotations l.count l.measures.0

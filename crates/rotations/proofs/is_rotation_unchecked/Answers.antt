@@ -12,14 +12,14 @@ use Rattle.natives.specs.Arrays.{at}
 use Rattle.rotations.proofs.is_rotation_unchecked.Goals as goal
 use Rattle.rotations.proofs.is_rotation_unchecked.Goals.{Start}
 
-flag : (c : Start) → get_or c.args.kept.now c.args.n false ≡ kept (at c.args.strings.now) c.args.n
+flag : (c : Start) → get_or c.args.natives.now.kept c.args.n false ≡ kept (at c.args.natives.now.strings) c.args.n
 flag c =
-    ap (λ (l : List Bool). get_or l c.args.n false) c.requires.2 ∙ listed_at (kept (at c.args.strings.now)) false natives c.args.n c.requires.0
+    ap (λ (l : List Bool). get_or l c.args.n false) c.args.natives.now.flagged ∙ listed_at (kept (at c.args.natives.now.strings)) false natives c.args.n c.requires
 
-pub returns-then-kept-n : goal.returns-then-kept-n
-returns-then-kept-n c =
-    c.has_pivot_support_unchecked.ensures ∙ ap (λ (b : Bool). b && has_pivot qubits (at c.args.strings.now c.args.n)) (sym c.if-kept-n.true ∙ flag (goal.at.returns-then-kept-n c).Start)
+pub returns-then-natives-n : goal.returns-then-natives-n
+returns-then-natives-n c =
+    c.has_pivot_support_unchecked.ensures ∙ ap (λ (b : Bool). b && has_pivot qubits (at c.args.natives.now.strings c.args.n)) (sym c.if-natives-n.true ∙ flag (goal.at.returns-then-natives-n c).Start)
 
-pub returns : goal.returns
-returns c =
-    ap (λ (b : Bool). b && has_pivot qubits (at c.args.strings.now c.args.n)) (sym c.if-kept-n.false ∙ flag (goal.at.returns c).Start)
+pub returns-else-natives-n : goal.returns-else-natives-n
+returns-else-natives-n c =
+    c.if-natives-n.false ∙ ap (λ (b : Bool). b && has_pivot qubits (at c.args.natives.now.strings c.args.n)) (sym c.if-natives-n.false ∙ flag (goal.at.returns-else-natives-n c).Start)

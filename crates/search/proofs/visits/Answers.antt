@@ -8,53 +8,63 @@ use Rattle.pauli_string.specs.Strings.{qubits}
 use Rattle.native_measurement.specs.Natives.{natives}
 use Rattle.natives.specs.Arrays.{at}
 use Rattle.table.specs.Entries.{value}
-use Rattle.discovery.specs.Model.{State, state, discover}
+use Rattle.discovery.specs.Model.{State, discover}
 use Rattle.discovery.specs.States.{twelve, Good, Asks}
-use Rattle.discovery.specs.Short.{strung}
-use Rattle.discovery.proofs.Short.{room_less, tried_count}
+use Rattle.discovery.specs.Builds.{held}
+use Rattle.discovery.proofs.Short.{is_short, room_less, tried_count}
 use Rattle.discovery.proofs.States.{tried_asks}
 use Rattle.search.specs.Turns.{listed_tried}
 use Rattle.search.proofs.visits.Goals as goal
 
 pub loop-j-init : goal.loop-j-init
-loop-j-init c =
+loop-j-init g c =
     let a = c.args in
-    (omega arith, refl, refl, sym (in_turn_none (listed_tried a.xs.now a.gs.now a.depth) (state a.table.now (strung a.short a.queue.now) a.count)), c.requires.k_le_natives.2)
-
-pub discover_unchecked-c-requires : goal.discover_unchecked-c-requires
-discover_unchecked-c-requires c =
-    let a = c.args in
-    let w = state a.table.now (strung a.short a.queue.now) a.count in
-    let x = at a.xs.now c.loop-j.j in
-    let n = at a.gs.now c.loop-j.j in
-    let t = tried_asks qubits twelve (at a.xs.now) (at a.gs.now) a.depth c.loop-j.j w c.requires.k_le_natives.1 (λ j h. c.requires.by_index j (omega (arith, c.loop-j.invariant.0))) in
+    let m = a.moved.now in
     record {
-      good = (
-        subst (Good qubits) (sym c.loop-j.invariant.3) t.0,
-        subst (λ (w : State). Asks qubits w x a.depth n) (sym c.loop-j.invariant.3) (t.1 x a.depth n (c.requires.by_index c.loop-j.j c.loop-j-test.true)),
+      lent = (refl, refl);
+      comes = record { to = sym (in_turn_none (listed_tried m.strings m.natives a.depth) (held (is_short g.row.SHORT) a.b.now)); notes = c.requires.sound.0.notes };
+    }
+
+pub discover_unchecked-requires : goal.discover_unchecked-requires
+discover_unchecked-requires g c =
+    let a = c.args in
+    let xs = at a.moved.now.strings in
+    let ns = at a.moved.now.natives in
+    let j = c.loop-j.j in
+    let s = held (is_short g.row.SHORT) a.b.now in
+    let e = c.loop-j.invariant.comes in
+    let t = tried_asks qubits twelve xs ns a.depth j s c.requires.sound.0.good (λ i h. c.requires.by_index i (omega (arith, c.loop-j-test.true))) in
+    record {
+      sound = (
+        record { good = subst (Good qubits) (sym e.to) t.0; notes = e.notes },
+        room_less (is_short g.row.SHORT) a.b.now.count c.loop-j.b.count 1 natives c.requires.sound.1
+            (omega (arith, ap (λ (s : State). s.count) e.to, tried_count xs ns a.depth j s, c.loop-j-test.true, a.moved.now.few)),
       );
-      notes = (
-        c.loop-j.invariant.4,
-        room_less a.short a.count c.loop-j.c 1 natives c.requires.k_le_natives.3
-            (omega (arith, ap (λ (s : State). s.count) c.loop-j.invariant.3, tried_count (at a.xs.now) (at a.gs.now) a.depth c.loop-j.j w, c.loop-j-test.true, c.requires.k_le_natives.0)),
-      );
+      asks = subst (λ (s : State). Asks qubits s (xs j) a.depth (ns j)) (sym e.to) (t.1 (xs j) a.depth (ns j) (c.requires.by_index j c.loop-j-test.true));
     }
 
 pub loop-j-preserved : goal.loop-j-preserved
-loop-j-preserved c =
+loop-j-preserved g c =
     let a = c.args in
-    let w = state a.table.now (strung a.short a.queue.now) a.count in (
-      omega arith,
-      c.discover_unchecked-c.auto.table ∙ c.loop-j.invariant.1,
-      c.discover_unchecked-c.auto.queue ∙ c.loop-j.invariant.2,
-      c.discover_unchecked-c.ensures.0
-          ∙ ap (discover (at a.xs.now c.loop-j.j) (value a.depth (at a.gs.now c.loop-j.j))) c.loop-j.invariant.3
-          ∙ sym (in_turn_next c.loop-j.j (listed_tried a.xs.now a.gs.now a.depth) w),
-      c.discover_unchecked-c.ensures.1,
-    )
+    let m = a.moved.now in
+    let j = c.loop-j.j in
+    let e = c.discover_unchecked.ensures in
+    record {
+      lent = (e.same_reference.0 ∙ c.loop-j.invariant.lent.0, e.same_reference.1 ∙ c.loop-j.invariant.lent.1);
+      comes = record {
+        to =
+            e.comes.to
+            ∙ ap (discover (at m.strings j) (value a.depth (at m.natives j))) c.loop-j.invariant.comes.to
+            ∙ sym (in_turn_next j (listed_tried m.strings m.natives a.depth) (held (is_short g.row.SHORT) a.b.now));
+        notes = e.comes.notes;
+      };
+    }
 
-pub returns : goal.returns
-returns c =
-    let a = c.args in
-    let z : c.loop-j.j ≡ a.k = omega arith in
-    (c.loop-j.invariant.3 ∙ ap (λ (k : ℕ). in_turn k (listed_tried a.xs.now a.gs.now a.depth) (state a.table.now (strung a.short a.queue.now) a.count)) z, c.loop-j.invariant.4)
+pub returns-clause-comes : goal.returns-clause-comes
+returns-clause-comes g c =
+    let m = c.args.moved.now in
+    let z : c.loop-j.j ≡ m.count = omega arith in
+    record {
+      to = c.loop-j.invariant.comes.to ∙ ap (λ (k : ℕ). in_turn k (listed_tried m.strings m.natives c.args.depth) (held (is_short g.row.SHORT) c.args.b.now)) z;
+      notes = c.loop-j.invariant.comes.notes;
+    }

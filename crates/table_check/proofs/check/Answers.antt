@@ -1,35 +1,36 @@
 -- `table_check::check` meets its contract: a table and a pair are given, and the check stops at the lowest index that breaks its rule, or
 -- behind all. Assumes nothing.
-use mathlib.Core.Path.{◌≡◌, sym, ◌∙◌}
-use native.Mathlib.Omega.{arith}
-use Rattle.bicycle_common.specs.declared.Outcome.TheVariants.{Done}
+use mathlib.Core.Path.{◌≡◌}
+use Rattle.std.specs.Prelude.{Ok}
 use Rattle.pauli_string.specs.Strings.{qubits}
 use Rattle.measurement.specs.Matrices.{side}
+use Rattle.measurement.specs.Measures.{pair_string}
+use Rattle.natives.proofs.Arrays.{natives_at}
 use Rattle.table.specs.Answers.{given}
-use Rattle.table.proofs.Answers.{given_done}
-use Rattle.table_check.proofs.Answers.{stops_fails, stops_passes}
+use Rattle.table.specs.Bytes.{entry}
+use Rattle.table.proofs.Answers.{is_given}
+use Rattle.table.proofs.Bytes.{entry_lt}
+use Rattle.table_check.specs.Tests.{Stops}
+use Rattle.table_check.proofs.Answers.{stops_checked}
+use Rattle.table_check.proofs.Same.{stops_same}
 use Rattle.table_check.proofs.check.Goals as goal
-use Rattle.table_check.proofs.check.Goals.{In-Done}
+use Rattle.table_check.proofs.check.Goals.{After-lowest-p}
 
--- a table and a pair are given
-done : (c : In-Done) → given qubits side c.args.table.now c.args.mx.now c.args.my.now ≡ Done
-done c = sym c.given.ensures ∙ c.in-Done.is
+module _ (c : After-lowest-p) where
+  done : given qubits side c.args.table.now c.args.mx.now c.args.my.now ≡ Ok tt
+  done =
+      let p = c.in_ok-pair in
+      rw (← c.in_ok-table.ensures, ← p.ensures.0, ← p.ensures.1) (is_given qubits side _ _ _ c.in_ok-table.table.whole p.pair.x_matrix p.pair.y_matrix)
 
-pub check_pair-p-requires : goal.check_pair-p-requires
-check_pair-p-requires c =
-    let a = c.args in
-    let g = given_done qubits side a.table.now a.mx.now a.my.now (done (goal.at.check_pair-p-requires c).In-Done) in
-    record { table_len = g.0; mx_value = (g.1, g.2) }
+  stops : Stops qubits (pair_string side c.args.mx.now c.args.my.now) (entry c.args.table.now) c.lowest-p.result
+  stops =
+      let p = c.in_ok-pair.ensures in
+      rw (← c.in_ok-table.ensures, ← p.0, ← p.1) (stops_same _ _ _ (natives_at _ _ _ c.natives_unchecked.ensures.strings) _ _ c.lowest-p.ensures)
 
-pub returns-then-p-lt-STRINGS : goal.returns-then-p-lt-STRINGS
-returns-then-p-lt-STRINGS c =
-    let a = c.args in
-    stops_fails qubits side a.table.now a.mx.now a.my.now c.check_pair-p.result (done (goal.at.returns-then-p-lt-STRINGS c).In-Done) c.check_pair-p.ensures c.if-p-lt-STRINGS.true
+pub lowest-p-requires : goal.lowest-p-requires
+lowest-p-requires c = rw c.in_ok-table.ensures (entry_lt c.args.table.now (λ i. (c.type_inv.table i).fits))
 
-pub returns-in-Refused : goal.returns-in-Refused
-returns-in-Refused c = sym c.given.ensures ∙ c.in-Refused.is
-
-pub returns-else-p-lt-STRINGS : goal.returns-else-p-lt-STRINGS
-returns-else-p-lt-STRINGS c =
-    let a = c.args in
-    stops_passes qubits side a.table.now a.mx.now a.my.now c.check_pair-p.result (done (goal.at.returns-else-p-lt-STRINGS c).In-Done) c.check_pair-p.ensures (omega (arith, c.if-p-lt-STRINGS.false))
+pub returns : goal.returns
+returns c =
+    let a = (goal.at.returns c).After-lowest-p in
+    rw c.then_some.ensures (stops_checked _ _ _ _ _ _ (done a) (stops a))

@@ -1,34 +1,28 @@
--- `text::number_in` meets its contract: v is what the digits before place i stand for, and three of them are below 1,000. Assumes nothing.
+-- `text::number_in` meets its contract: v is what the digits before byte b stand for, and three of them are below 1,000. Assumes nothing.
 use mathlib.Core.Path.{refl, sym, ◌∙◌}
 use Prim.Native.Nat.{◌<◌}
 use native.Mathlib.Omega.{arith}
 use Rattle.text.proofs.Decimals.{all_next, so_far_next, number_none, small_before}
 use Rattle.text.proofs.number_in.Goals as goal
 
-pub loop-i-init : goal.loop-i-init
-loop-i-init c = record { inside = omega arith; digits = c.requires.1; number = refl; small = omega arith }
+pub loop-b-init : goal.loop-b-init
+loop-b-init c = record { digits = c.requires.1; number = refl; small = omega arith }
 
 pub overflow_mul-v : goal.overflow_mul-v
 overflow_mul-v c =
-    let k : c.loop-i.i < 3 = omega arith in
-    omega (arith, small_before _ _ c.loop-i.invariant.small k)
+    let k : c.loop-b.b-index < 3 = omega arith in
+    omega (arith, small_before _ _ c.loop-b.invariant.small k)
 
-pub bounds-s-i : goal.bounds-s-i
-bounds-s-i c = c.loop-i-test.true
-
-pub overflow_sub-v : goal.overflow_sub-v
-overflow_sub-v c = (all_next _ _ c.loop-i-test.true c.loop-i.invariant.digits).0.low
-
-pub overflow_cast-v : goal.overflow_cast-v
-overflow_cast-v c = omega (arith, (all_next _ _ c.loop-i-test.true c.loop-i.invariant.digits).0.high)
+pub overflow_sub-b : goal.overflow_sub-b
+overflow_sub-b c = (all_next _ _ c.loop-b-test.true c.loop-b.invariant.digits).0.low
 
 pub overflow_add-v : goal.overflow_add-v
 overflow_add-v c =
-    let k : c.loop-i.i < 3 = omega arith in
-    omega (arith, small_before _ _ c.loop-i.invariant.small k, (all_next _ _ c.loop-i-test.true c.loop-i.invariant.digits).0.high)
+    let k : c.loop-b.b-index < 3 = omega arith in
+    omega (arith, small_before _ _ c.loop-b.invariant.small k, (all_next _ _ c.loop-b-test.true c.loop-b.invariant.digits).0.high, c.from.ensures)
 
-pub loop-i-preserved : goal.loop-i-preserved
-loop-i-preserved c = so_far_next _ _ _ c.loop-i.invariant c.loop-i-test.true
+pub loop-b-preserved : goal.loop-b-preserved
+loop-b-preserved c = rw c.from.ensures (so_far_next _ _ _ c.loop-b.invariant c.loop-b-test.true)
 
 pub returns : goal.returns
-returns c = sym (number_none _ _ _ c.loop-i-test.false) ∙ c.loop-i.invariant.number
+returns c = sym (number_none _ _ _ c.loop-b-test.false) ∙ c.loop-b.invariant.number

@@ -1,20 +1,21 @@
--- `pauli_string::PauliString::display_unchecked` meets its contract: the loop fills the array from the front with the text of the string.
--- Assumes nothing.
-use mathlib.Core.Path.{refl, sym, ap, ◌∙◌}
-use Prim.Native.Nat.{◌<◌}
+-- `pauli_string::PauliString::display_unchecked` meets its contract: place by place the array has the text of the string. Assumes nothing.
+use borrow.Author.Rules.{rules}
+use Prim.Native.Nat.{ℕ, ◌-◌, ◌<◌}
+use mathlib.Core.Path.{◌≡◌, sym, ◌∙◌}
 use native.Mathlib.Omega.{arith}
+use lib.ListN.{get_or}
+use lib.Seq.{ext_get_or}
 use Rattle.bicycle_common.specs.Letters.{capital}
-use Rattle.bicycle_common.proofs.Filled.{filled_none, filled_more, filled_list}
+use Rattle.bicycle_common.specs.declared.Pauli.TheVariants.{I}
+use Rattle.pauli_string.specs.Strings.{letter_at}
+use Rattle.pauli_string.specs.Text.{text}
 use Rattle.pauli_string.proofs.Text.{length_text, text_at}
 use Rattle.pauli_string.proofs.PauliString.display_unchecked.Goals as goal
 
-pub loop-i-init : goal.loop-i-init
-loop-i-init c = filled_none refl
-
-pub loop-i-preserved : goal.loop-i-preserved
-loop-i-preserved c =
-    let n : c.loop-i.i < 12 = omega arith in
-    filled_more c.loop-i.invariant n (c.display.ensures ∙ ap capital c.get_pauli_unchecked.ensures ∙ sym (text_at 12 c.args.self.0 c.loop-i.i n))
-
 pub returns : goal.returns
-returns c = filled_list c.loop-i.invariant (omega arith) (length_text 12 c.args.self.0)
+returns c =
+    let p = c.args.self.0 in
+    let long = c.from_fn.ensures.items.long in
+    let e : (i : ℕ) → i < 12 → get_or c.from_fn.result i (capital I) ≡ capital (letter_at 12 p (11 - i)) = search rules in
+    ext_get_or (capital I) c.from_fn.result (text 12 p) (long ∙ sym (length_text 12 p))
+    (λ i h. let j : i < 12 = omega (arith, long) in e i j ∙ sym (text_at 12 p i j))

@@ -5,6 +5,8 @@ use mathlib.Core.Path.{◌≡◌, refl, sym, ap, ◌∙◌}
 use Prim.Native.Nat.{ℕ}
 use native.Mathlib.Omega.{arith}
 use lib.ListN.{length}
+use borrow.Author.Rules.{rules}
+use Rattle.bicycle_common.proofs.Letters.{read_refused}
 use Rattle.pauli_string.specs.Answers.{string}
 use Rattle.pauli_string.specs.Text.{good}
 use Rattle.pauli_string.proofs.Text.{reading_none, reading_more, reading_done, text_short, text_bad}
@@ -24,16 +26,19 @@ bounds-text-i c =
     let n : length c.args.text.now ≡ 12 = r.size in
     omega arith
 
-pub returns-in_default : goal.returns-in_default
-returns-in_default c =
+pub returns-in_err-letters : goal.returns-in_err-letters
+returns-in_err-letters c =
     let s : List ℕ = c.args.text.now in
     let n : length s ≡ 12 = c.loop-i.invariant.size in
-    simp (text_bad 12 s c.loop-i.i (omega arith) (ap good (sym c.try_from.ensures ∙ c.in_default.is)))
+    let r = sym c.try_from.ensures ∙ c.in_err-letters.was in
+    let e = read_refused _ _ r in
+    let bad = text_bad 12 s c.loop-i.i (omega arith) (ap good r) in
+    search (rules, e, bad)
 
 pub loop-i-preserved : goal.loop-i-preserved
 loop-i-preserved c =
     reading_more 12 c.args.text.now c.loop-i.letters c.loop-i.i _ c.loop-i.invariant (omega arith)
-    (sym c.try_from.ensures ∙ c.in-Is.is)
+    (sym c.try_from.ensures ∙ c.in_ok-letters.was)
 
 pub returns : goal.returns
 returns c =

@@ -1,17 +1,17 @@
--- `pauli_string::PauliString::get_pauli_unchecked` meets its contract: the tests of the two digits say which letter it is. Assumes nothing.
+-- `pauli_string::PauliString::get_pauli_unchecked` meets its contract: the two digits say which letter it is. Assumes nothing.
 use mathlib.Core.Bool.{true, false}
-use mathlib.Core.Path.{sym, ◌∙◌}
+use mathlib.Core.Path.{sym}
 use Rattle.pauli_string.proofs.Places.{letter_at_law}
 use Rattle.pauli_string.proofs.PauliString.get_pauli_unchecked.Goals as goal
 
-pub returns-then-get_bit-2 : goal.returns-then-get_bit-2
-returns-then-get_bit-2 c = sym (letter_at_law 12 _ _ true true (sym c.get_bit.ensures ∙ c.if-get_bit.true) (sym c.get_bit-then-get_bit.ensures ∙ c.if-get_bit-2.true))
+pub returns-in-true-true : goal.returns-in-true-true
+returns-in-true-true c = sym (letter_at_law 12 _ _ true true (sym c.in-true-true.ensures) (sym c.in-true-true.ensures'))
 
-pub returns-else-get_bit-2 : goal.returns-else-get_bit-2
-returns-else-get_bit-2 c = sym (letter_at_law 12 _ _ true false (sym c.get_bit.ensures ∙ c.if-get_bit.true) (sym c.get_bit-then-get_bit.ensures ∙ c.if-get_bit-2.false))
+pub returns-in-true-false : goal.returns-in-true-false
+returns-in-true-false c = sym (letter_at_law 12 _ _ true false (sym c.in-true-false.ensures) (sym c.in-true-false.ensures'))
 
-pub returns-then-get_bit-3 : goal.returns-then-get_bit-3
-returns-then-get_bit-3 c = sym (letter_at_law 12 _ _ false true (sym c.get_bit.ensures ∙ c.if-get_bit.false) (sym c.get_bit-else-get_bit.ensures ∙ c.if-get_bit-3.true))
+pub returns-in-false-true : goal.returns-in-false-true
+returns-in-false-true c = sym (letter_at_law 12 _ _ false true (sym c.in-false-true.ensures) (sym c.in-false-true.ensures'))
 
-pub returns-else-get_bit-3 : goal.returns-else-get_bit-3
-returns-else-get_bit-3 c = sym (letter_at_law 12 _ _ false false (sym c.get_bit.ensures ∙ c.if-get_bit.false) (sym c.get_bit-else-get_bit.ensures ∙ c.if-get_bit-3.false))
+pub returns-in-false-false : goal.returns-in-false-false
+returns-in-false-false c = sym (letter_at_law 12 _ _ false false (sym c.in-false-false.ensures) (sym c.in-false-false.ensures'))

@@ -1,7 +1,0 @@
--- `bicycle::bicycle_commutes_with` meets its contract: it is the call of the same name, flattened. Assumes nothing.
-use mathlib.Core.Path.{ap, ◌∙◌}
-use Rattle.bicycle.specs.Flat.{flat_bool}
-use Rattle.bicycle.proofs.bicycle_commutes_with.Goals as goal
-
-pub returns : goal.returns
-returns c = c.flat_bool.ensures ∙ ap flat_bool c.commutes_with.ensures

@@ -1,9 +1,0 @@
--- `display::write_rotation` meets its contract: an empty buffer tells the length, and then there is room for all of the text or nothing is written. Assumes nothing.
-use Rattle.text.proofs.Fronts.{written_short, written_whole}
-use Rattle.display.proofs.write_rotation.Goals as goal
-
-pub returns-then-out-needed : goal.returns-then-out-needed
-returns-then-out-needed c = written_short c.put_rotation_unchecked-needed.ensures.0 c.if-out-needed.true
-
-pub returns : goal.returns
-returns c = written_whole c.put_rotation_unchecked-needed.ensures.0 c.if-out-needed.false c.put_rotation_unchecked.ensures.0

@@ -1,9 +1,0 @@
--- `plan::read_full` meets its contract: what is read never passes the end. Assumes nothing.
-use Rattle.std.proofs.Common.{length, ◌≤◌, ◌-◌}
-use Rattle.plan.proofs.read_full.Given as goal
-
-abbrev pub invariant-loop-done : goal.invariant-loop-done
-invariant-loop-done g l = l.done ≤ length l.buffer
-
-abbrev pub decreases-loop-done : goal.decreases-loop-done
-decreases-loop-done g l = length l.buffer - l.done
