@@ -399,8 +399,6 @@ fn front<'a, K: Kind>(
 
 // Both lookups are `look_up` and `front`: what follows has the names and parameters that README gives their calls.
 
-// Both lookups are `look_up` and `front`: what follows has the names and parameters that README gives their calls.
-
 // The plan of string p by the table of the pair: a native, and rotations whose natives are written to the buffer, base
 // side first, two bytes each, low first.
 pub fn implementation(

@@ -17,7 +17,7 @@ ghost use Rattle.bicycle_common.specs.Ranges.{listed};
 ghost use Rattle.measurement.specs.Matrices.{side, of_rows, by_rows, of_bytes, one, mul, pow, is_binary, is_bytes, Binary, Same};
 ghost use Rattle.measurement.specs.Measures.{action, packed, placed, placed_by, measured};
 ghost use Rattle.measurement.specs.Codes.{pair_of, code_pair};
-ghost use Rattle.measurement.specs.Answers.{measures_if, measures, measures_bytes};
+ghost use Rattle.measurement.specs.Answers.{of_answer, matrices_at, measures_if, measures, measures_bytes};
 
 use bicycle_common::{AutomorphismData, Refusal, TwoBases};
 use native_measurement::{NativeMeasurement, NativeNumber};
@@ -267,9 +267,11 @@ pub struct Pair<'a> {
 impl<'a> Pair<'a> {
     // The pair of the bytes: 3 where one of them is no matrix.
     pub fn new(mx: &'a [u8], my: &'a [u8]) -> Result<Pair<'a>, Refusal>
-        ensures { MatchResult result
+        ensures pair { MatchResult result
             (λ p. (p.mx ≡ mx.entry) × (p.my ≡ my.entry))
             (λ r. (r ≡ Refusal.Matrix) × ((is_bytes side mx.now && is_bytes side my.now) ≡ false)) }
+        ensures mx_decided { of_answer (λ (p : Pair). p.mx) result ≡ matrices_at side mx.now my.now mx.entry }
+        ensures my_decided { of_answer (λ (p : Pair). p.my) result ≡ matrices_at side mx.now my.now my.entry }
     {
         if is_matrix(mx) && is_matrix(my) {
             Ok(Pair { mx, my })

@@ -326,8 +326,8 @@ pub fn strings_unchecked(pair: Pair<'_>, out: &mut [u32])
 // ---- which are kept
 
 // Whether no string on the chain from first on is that of n.
-fn alone(s: &[u32; 540], next: &[u16; 540], n: usize, first: u16) -> bool
-    requires n_lt_natives { n < natives }
+fn alone(s: &[u32], next: &[u16; 540], n: usize, first: u16) -> bool
+    requires s_len { (length s.now ≡ natives) × (n < natives) }
     requires linked { Linked (bucket s.now) next.now (n + 1) × Next (bucket s.now) (bucket s.now n) (n + 1) first }
     ensures { result ≡ kept (at s.now) n }
 {
@@ -345,7 +345,8 @@ fn alone(s: &[u32; 540], next: &[u16; 540], n: usize, first: u16) -> bool
 
 // The kept flags of all natives. The chain of a bucket holds the natives passed so far whose strings fall into it. It is
 // linked by numbers in two arrays, as there is no heap, and ends at 540, as `Next` has it: an `Option` is twice as long.
-pub fn kept_flags_unchecked(s: &[u32; 540]) -> [bool; 540]
+pub fn kept_flags_unchecked(s: &[u32]) -> [bool; 540]
+    requires { length s.now ≡ natives }
     ensures { result ≡ flags (at s.now) }
 {
     let mut head = [540u16; 1021];

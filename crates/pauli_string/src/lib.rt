@@ -51,7 +51,6 @@ fn on_pivot(p: Pauli) -> PauliString
 }
 
 // By shifts: the library reads no digit of a number by its place.
-// By shifts: the library reads no digit of a number by its place.
 fn get_bit(n: u32, index: usize) -> bool
     requires { index < 32 }
     ensures { result ≡ eqb (bit n index) 1 }
@@ -320,7 +319,6 @@ impl PauliString {
 
     // The string that twelve letters of text spell, qubit 11 first and qubit 0 last, in either case. Nothing in a text says
     // its direction: backwards it is read too, and is another string unless the letters form a palindrome.
-    // No `TryFrom`: README and the C function `bicycle_from_text` have the name.
     // No `TryFrom`: README and the C function `bicycle_from_text` have the name.
     pub fn from_text(text: &[u8]) -> Result<PauliString, Refusal>
         ensures { result ≡ read_text qubits text.now }

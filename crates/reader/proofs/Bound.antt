@@ -1,6 +1,6 @@
 -- The text of a plan has at most 3,417 bytes, which are 40 + 40 + 9 + 256 * 13, and the first 3,418 bytes of any text decide what is read: a
 -- line that is too long is bad, and so is one line more. Assumes nothing.
-use Rattle.std.specs.Prelude.{Result, Ok, Err}
+use Rattle.std.specs.Prelude.{Result, Ok, Err, min}
 use Rattle.bicycle_common.specs.declared.Refusal.{Refusal}
 use mathlib.Core.Path.{◌≡◌, refl, ap, sym, ◌∙◌}
 use mathlib.Core.Bool.{Bool, true, false, cond, and-false}
@@ -10,7 +10,7 @@ use Prim.Native.Nat.{ℕ, zero, suc, ◌+◌, ◌-◌, ◌*◌, ◌≤◌, ◌<�
 use native.Mathlib.Omega.{arith}
 use lib.Dec.{eqb, leb}
 use lib.ListN.{length, take, drop, length-take, length-drop}
-use lib.Seq.{take-nil, take-take, length-take-le}
+use lib.Seq.{take-nil, take-take, take_all, length-take-le}
 use borrow.Author.Tests.{lt-leb, ne_eqb}
 use Rattle.bicycle_common.specs.declared.Refusal.TheVariants.{PlanInput}
 use Rattle.bicycle_common.specs.Bytes.{bytes_of}
@@ -261,6 +261,15 @@ plan_bounded =
 -- the first n bytes decide what is read, for any n from 3,418 on
 pub read_bounded : (n : ℕ) (s : List ℕ) → 3417 < n → read_plan (take n s) ≡ read_plan s
 read_bounded n s h = plan_bounded.front n s h
+
+-- and so do those that a slice of 3,418 bytes at most holds
+pub front_head : (s : List ℕ) (n : ℕ) → n ≡ min (length s) 3418
+    → read_plan s ≡ on (matrix_line (bytes_of "mx=") (first (take n s))) (λ (mx : List ℕ). on (matrix_line (bytes_of "my=") (first (rest (take n s))))
+    (λ (my : List ℕ). native_lines (record { mx = mx; my = my }) (lines (rest (rest (take n s))))))
+front_head s n e =
+    let f : read_plan (take n s) ≡ read_plan s =
+    ⊎_elim (λ q. read_bounded n s (omega (arith, e, q))) (λ q. ap read_plan (take_all n s q)) (lt_or_ge n (length s)) in
+    sym f ∙ read_head (take n s)
 
 pub read_length : (s : List ℕ) (p : Plan) → read_plan s ≡ Ok p → length s ≤ 3417
 read_length s p e = plan_bounded.short s p e

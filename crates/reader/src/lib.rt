@@ -182,11 +182,12 @@ fn read_natives(input: &[u8], pair: CodeMeasurement) -> Result<StatedPlan, Refus
 }
 
 // The plan that the input states: 12, 3, 11 or 10 by its first bad line; and where every line is good, 5.
-#[tactic(auto, using(crate::proofs::Heads::read_head))]
 pub fn read(input: &[u8]) -> Result<StatedPlan, Refusal>
     ensures { result ≡ stated (read_plan input.now) }
 {
-    let (first, behind) = split_line(input);
+    // The bytes that decide (`read_bounded`): no other is looked at, however many there are
+    let front = &input[..input.len().min(3418)];
+    let (first, behind) = split_line(front);
     let mx = matrix_line(b"mx=", first)?;
     let (second, behind) = split_line(behind);
     let my = matrix_line(b"my=", second)?;

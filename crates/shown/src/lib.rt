@@ -35,7 +35,6 @@ impl Display for Refused {
     fn fmt<W: fmt::Write>(&self, f: &mut Formatter<W>) -> fmt::Result {
         write!(f, "refused={}", self.0.number())?;
         // 0 where there is none, as `needed` answers it
-        // 0 where there is none, as `needed` answers it
         match self.0.needed() {
             0 => Ok(()),
             needed => write!(f, " needed={needed}"),

@@ -18,5 +18,12 @@ both true true r s z = (refl, refl)
 both true false r s z = let n : ◌≡◌ {A = ℕ} 0 1 = cc in absurd (omega arith)
 both false b r s z = let n : ◌≡◌ {A = ℕ} 0 1 = cc in absurd (omega arith)
 
+-- the table has its length, and both matrices are matrices
+pub given_done : (q s : ℕ) (t mx my : List ℕ) → given q s t mx my ≡ Ok tt → (length t ≡ table_length q) × (is_bytes s mx ≡ true) × (is_bytes s my ≡ true)
+given_done q s t mx my z =
+    let b = both (is_table q t) (is_bytes s mx && is_bytes s my) TableLength Matrix z in
+    let m = (and-eq-true_iff (is_bytes s mx) (is_bytes s my)).0 b.1 in
+    (eqb-true (length t) (table_length q) b.0, m.0, m.1)
+
 pub is_given : (q s : ℕ) (t mx my : List ℕ) → length t ≡ table_length q → is_bytes s mx ≡ true → is_bytes s my ≡ true → given q s t mx my ≡ Ok tt
 is_given q s t mx my e x y = rw (eq-eqb (length t) (table_length q) e, x, y)

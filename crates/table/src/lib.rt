@@ -11,12 +11,13 @@
 // (see NOTICE).
 #![tactic(auto)]
 
-ghost use Rattle.std.specs.Prelude.{◌≡◌, false, MatchResult, ℕ, ◌^◌, ◌<◌, eqb, length};
+ghost use Rattle.std.specs.Prelude.{◌≡◌, false, MatchResult, Ok, ℕ, ◌^◌, ◌<◌, eqb, length};
 ghost use Rattle.bicycle_common.specs.Ranges.{all_below};
 ghost use Rattle.pauli_string.specs.Strings.{qubits};
 ghost use Rattle.measurement.specs.Matrices.{side};
+ghost use Rattle.measurement.specs.Answers.{of_answer};
 ghost use Rattle.table.specs.Bytes.{table_length, entry, put, zeros};
-ghost use Rattle.table.specs.Answers.{is_table, given, is_empty, entries, len_of, value_at, has_entry_at, depth_at, field_at, costed, cost_at};
+ghost use Rattle.table.specs.Answers.{is_table, table_at, given, is_empty, entries, len_of, value_at, has_entry_at, depth_at, field_at, costed, cost_at};
 
 use bicycle_common::Refusal;
 use measurement::Pair;
@@ -37,9 +38,10 @@ pub struct Table<'a> {
 impl<'a> Table<'a> {
     // The table of the bytes: 1 where their number is another.
     pub fn new(bytes: &'a [u8]) -> Result<Table<'a>, Refusal>
-        ensures { MatchResult result
+        ensures table { MatchResult result
             (λ t. t.bytes ≡ bytes.entry)
             (λ r. (r ≡ Refusal.TableLength) × (is_table qubits bytes.now ≡ false)) }
+        ensures decided { of_answer (λ (t : Table). t.bytes) result ≡ table_at qubits bytes.now (Ok bytes.entry) }
     {
         if bytes.len() == TABLE_LENGTH {
             Ok(Table { bytes })
@@ -139,14 +141,11 @@ pub fn len(table: &[u8]) -> Result<u32, Refusal>
 
 // A value stays a number, taken apart by 1024 here and above: a type would be made and opened at each entry.
 
-// A value stays a number, taken apart by 1024 here and above: a type would be made and opened at each entry.
-
 // The value at string p, 0 where there is none.
 pub fn value(table: &[u8], p: PauliString) -> Result<u32, Refusal>
     ensures { result ≡ value_at qubits table.now p.0 }
 {
     let table = Table::new(table)?;
-    // As `PauliString::checked`, which is private: to share its test would take one more public call
     // As `PauliString::checked`, which is private: to share its test would take one more public call
     if p.0 >= STRINGS {
         return Err(Refusal::StringRange);

@@ -72,7 +72,6 @@ fn height(v: u32) -> u32
 // What p becomes by each rotation, in front of xs: lent scratch, so that no array is made for each string. The loop has
 // no branch, for speed.
 // `moves::odds` fills an array likewise: a call for both would take the value as a closure, with a contract of its own.
-// `moves::odds` fills an array likewise: a call for both would take the value as a closure, with a contract of its own.
 fn neighbours(rotations: &Rotations, p: u32, xs: &mut [u32; 540])
     requires { p < 4 ^ qubits }
     ensures each { Neighbours qubits p rotations.now.strings rotations.now.count xs.new }

@@ -13,7 +13,7 @@ use borrow.Author.Tests.{le-leb, ne_eqb}
 use Rattle.bicycle_common.specs.Bytes.{digit}
 use Rattle.bicycle_common.proofs.Ranges.{lt_or_ge}
 use Rattle.text.specs.Decimals.{decimal, is_digit, all_digits, number_from, number_in, needless_zero, is_number}
-use Rattle.text.proofs.Decimals.{decimal_one, decimal_more}
+use Rattle.text.proofs.Decimals.{decimal_one, decimal_more, one_length, more_length}
 
 -- what holds of the numbers below ten, and of any other where it holds of a tenth
 module _ (P : ℕ → Type 0) (one : (n : ℕ) → n < 10 → P n) (more : (n : ℕ) → 10 ≤ n → P (n / 10) → P n) where
@@ -32,6 +32,27 @@ decimal_some =
     by_digits (λ (n : ℕ). 0 < length (decimal n))
     (λ n h. rw (decimal_one n h) (omega arith))
     (λ n h p. rw (decimal_more n h, length-append) (omega arith))
+
+-- no more than a greater number has
+length_le : (n m : ℕ) → m ≤ n → length (decimal m) ≤ length (decimal n)
+length_le =
+    by_digits (λ (n : ℕ). (m : ℕ) → m ≤ n → length (decimal m) ≤ length (decimal n))
+    (λ n h m l. omega (arith, one_length n h, one_length m (omega arith)))
+    (λ n h p m l. ⊎_elim (λ q. omega (arith, one_length m q, decimal_some n)) (λ q. omega (arith, more_length m q, more_length n h, p (m / 10) (omega arith))) (lt_or_ge m 10))
+
+-- a digit alone, and a tenth at most, have fewer
+module _ {m n : ℕ} (h : 10 ≤ n) (l : 9 < m → m ≤ n / 10) where
+  fewer : length (decimal m) + 1 ≤ length (decimal n)
+  fewer =
+      ⊎_elim (λ q. omega (arith, one_length m q, more_length n h, decimal_some (n / 10)))
+      (λ q. omega (arith, more_length n h, length_le (n / 10) m (l (omega arith)))) (lt_or_ge m 10)
+
+  -- so there is room for them, and for a byte behind them
+  pub room_before : (at : ℕ) → at + length (decimal n) < 2 ^ 64 → at + length (decimal m) < 2 ^ 64
+  room_before at r = omega (arith, fewer)
+
+  pub room_behind : (at to : ℕ) → to ≡ at + length (decimal m) → at + length (decimal n) < 2 ^ 64 → to + 1 < 2 ^ 64
+  room_behind at to e r = omega (arith, e, fewer)
 
 -- at most k + 1 below 10 ^ (k + 1)
 pub decimal_length : (n k : ℕ) → n < 10 ^ suc k → length (decimal n) ≤ suc k

@@ -37,9 +37,12 @@ impl Out<'_> {
         requires { self.old.at + length s.now < 2 ^ 64 }
         ensures { Put self.old s.now self.new }
     {
-        for b in s {
-            self.put_byte_unchecked(*b);
+        // All at once: byte by byte through the place, a listing of 256 rotations took half as long again
+        if self.at < self.bytes.len() {
+            let n = s.len().min(self.bytes.len() - self.at);
+            self.bytes[self.at..self.at + n].copy_from_slice(&s[..n]);
         }
+        self.at += s.len();
     }
 
     // The digits of a number, first the highest.

@@ -23,7 +23,6 @@ pub struct MeasurementTable<'a> {
 }
 
 // Its calls are those of `table`, by their names: README names both, as the original has the type.
-// Its calls are those of `table`, by their names: README names both, as the original has the type.
 impl<'a> MeasurementTable<'a> {
     pub fn new(table: &'a [u8]) -> MeasurementTable<'a>
         ensures { result.table ≡ table.entry }

@@ -20,15 +20,15 @@ module _ (c : After-lowest-p) where
   done : given qubits side c.args.table.now c.args.mx.now c.args.my.now ≡ Ok tt
   done =
       let p = c.in_ok-pair in
-      rw (← c.in_ok-table.ensures, ← p.ensures.0, ← p.ensures.1) (is_given qubits side _ _ _ c.in_ok-table.table.whole p.pair.x_matrix p.pair.y_matrix)
+      rw (← c.in_ok-table.ensures.table, ← p.ensures.pair.0, ← p.ensures.pair.1) (is_given qubits side _ _ _ c.in_ok-table.table.whole p.pair.x_matrix p.pair.y_matrix)
 
   stops : Stops qubits (pair_string side c.args.mx.now c.args.my.now) (entry c.args.table.now) c.lowest-p.result
   stops =
-      let p = c.in_ok-pair.ensures in
-      rw (← c.in_ok-table.ensures, ← p.0, ← p.1) (stops_same _ _ _ (natives_at _ _ _ c.natives_unchecked.ensures.strings) _ _ c.lowest-p.ensures)
+      let p = c.in_ok-pair.ensures.pair in
+      rw (← c.in_ok-table.ensures.table, ← p.0, ← p.1) (stops_same _ _ _ (natives_at _ _ _ c.natives_unchecked.ensures.strings) _ _ c.lowest-p.ensures)
 
 pub lowest-p-requires : goal.lowest-p-requires
-lowest-p-requires c = rw c.in_ok-table.ensures (entry_lt c.args.table.now (λ i. (c.type_inv.table i).fits))
+lowest-p-requires c = rw c.in_ok-table.ensures.table (entry_lt c.args.table.now (λ i. (c.type_inv.table i).fits))
 
 pub returns : goal.returns
 returns c =
