@@ -2,10 +2,17 @@
 // No function that writes gives an error but that of a write that failed; what it wrote before may stand.
 #![tactic(auto)]
 
-ghost use Rattle.std.specs.Prelude.{◌≡◌, length};
+ghost use Rattle.std.specs.Prelude.{◌≡◌, length, map};
 ghost use Rattle.std.specs.Io.{ReadsAtMost};
+ghost use Rattle.bicycle_common.specs.Letters.{capital, flag};
+ghost use Rattle.pauli_string.specs.Strings.{qubits};
+ghost use Rattle.pauli_string.specs.Answers.{to_letters, printed};
+ghost use Rattle.native_measurement.specs.Answers.{implementation_at};
+ghost use Rattle.measurement.specs.Matrices.{side};
+ghost use Rattle.measurement.specs.Answers.{of_answer};
+ghost use Rattle.compile.specs.Expansions.{rotation_instructions};
 
-use bicycle_common::{BicycleISA, Refusal};
+use bicycle_common::{BicycleISA, Pauli, Refusal};
 use native_measurement::NativeNumber;
 use pauli_string::PauliString;
 use std::fmt::{Display, Formatter};
@@ -74,34 +81,49 @@ impl<const N: usize> Display for Instructions<N> {
 // ---- of answers
 
 // True as 1, false as 0.
-pub fn flag(answer: Result<bool, Refusal>) -> Shown<u8> {
+pub fn flag(answer: Result<bool, Refusal>) -> Shown<u8>
+    ensures { result.0 ≡ of_answer flag answer }
+{
     Shown(answer.map(u8::from))
 }
 
 // The number of a string.
-pub fn string(answer: Result<PauliString, Refusal>) -> Shown<u32> {
+pub fn string(answer: Result<PauliString, Refusal>) -> Shown<u32>
+    ensures { result.0 ≡ of_answer (λ (p : PauliString). p.0) answer }
+{
     Shown(answer.map(|p| p.0))
 }
 
-pub fn text(p: PauliString) -> Shown<Capitals> {
+pub fn text(p: PauliString) -> Shown<Capitals>
+    ensures { of_answer (λ (c : Capitals). c.0) result.0 ≡ printed qubits p.0 }
+{
     Shown(p.display().map(Capitals))
 }
 
+fn capitals_of(letters: [Pauli; 12]) -> Capitals
+    ensures { result.0 ≡ map capital letters }
+{
+    Capitals(letters.map(|l| l.display()))
+}
+
 // The letters of a string, qubit 0 first.
-pub fn letters(p: PauliString) -> Shown<Capitals> {
-    Shown(
-        p.letters()
-            .map(|letters| Capitals(letters.map(|l| l.display()))),
-    )
+pub fn letters(p: PauliString) -> Shown<Capitals>
+    ensures { of_answer (λ (c : Capitals). c.0) result.0 ≡ of_answer (map capital) (to_letters qubits p.0) }
+{
+    Shown(p.letters().map(capitals_of))
 }
 
 // The expansion of a native.
-pub fn native(n: NativeNumber) -> Shown<Instructions<3>> {
+pub fn native(n: NativeNumber) -> Shown<Instructions<3>>
+    ensures { of_answer (λ (i : Instructions 3). i.0) result.0 ≡ implementation_at n.0 }
+{
     Shown(native_measurement::implementation(n).map(Instructions))
 }
 
 // The expansion of a rotation by a native.
-pub fn rotation(mx: &[u8], my: &[u8], n: NativeNumber) -> Shown<Instructions<5>> {
+pub fn rotation(mx: &[u8], my: &[u8], n: NativeNumber) -> Shown<Instructions<5>>
+    ensures { of_answer (λ (i : Instructions 5). i.0) result.0 ≡ rotation_instructions qubits side mx.now my.now n.0 }
+{
     Shown(compile::rotation_instructions(mx, my, n).map(Instructions))
 }
 
