@@ -262,14 +262,14 @@ plan_bounded =
 pub read_bounded : (n : ℕ) (s : List ℕ) → 3417 < n → read_plan (take n s) ≡ read_plan s
 read_bounded n s h = plan_bounded.front n s h
 
--- and so do those that a slice of 3,418 bytes at most holds
-pub front_head : (s : List ℕ) (n : ℕ) → n ≡ min (length s) 3418
-    → read_plan s ≡ on (matrix_line (bytes_of "mx=") (first (take n s))) (λ (mx : List ℕ). on (matrix_line (bytes_of "my=") (first (rest (take n s))))
-    (λ (my : List ℕ). native_lines (record { mx = mx; my = my }) (lines (rest (rest (take n s))))))
-front_head s n e =
-    let f : read_plan (take n s) ≡ read_plan s =
-    ⊎_elim (λ q. read_bounded n s (omega (arith, e, q))) (λ q. ap read_plan (take_all n s q)) (lt_or_ge n (length s)) in
-    sym f ∙ read_head (take n s)
+-- and so do those that a slice of n bytes at most holds
+pub front_head : (s : List ℕ) (k n : ℕ) → 3417 < n → k ≡ min (length s) n
+    → read_plan s ≡ on (matrix_line (bytes_of "mx=") (first (take k s))) (λ (mx : List ℕ). on (matrix_line (bytes_of "my=") (first (rest (take k s))))
+    (λ (my : List ℕ). native_lines (record { mx = mx; my = my }) (lines (rest (rest (take k s))))))
+front_head s k n g e =
+    let f : read_plan (take k s) ≡ read_plan s =
+    ⊎_elim (λ q. read_bounded k s (omega (arith, e, q))) (λ q. ap read_plan (take_all k s q)) (lt_or_ge k (length s)) in
+    sym f ∙ read_head (take k s)
 
 pub read_length : (s : List ℕ) (p : Plan) → read_plan s ≡ Ok p → length s ≤ 3417
 read_length s p e = plan_bounded.short s p e

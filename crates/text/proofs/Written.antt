@@ -40,6 +40,9 @@ length_le =
     (λ n h m l. omega (arith, one_length n h, one_length m (omega arith)))
     (λ n h p m l. ⊎_elim (λ q. omega (arith, one_length m q, decimal_some n)) (λ q. omega (arith, more_length m q, more_length n h, p (m / 10) (omega arith))) (lt_or_ge m 10))
 
+pub room_within : {m n : ℕ} → m ≤ n → (at : ℕ) → at + length (decimal n) < 2 ^ 64 → at + length (decimal m) < 2 ^ 64
+room_within {m} {n} l at r = omega (arith, length_le n m l)
+
 -- a digit alone, and a tenth at most, have fewer
 module _ {m n : ℕ} (h : 10 ≤ n) (l : 9 < m → m ≤ n / 10) where
   fewer : length (decimal m) + 1 ≤ length (decimal n)
